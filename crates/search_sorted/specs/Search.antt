@@ -1,0 +1,52 @@
+-- What a search answers.
+use mathlib.Core.Path.{_≡_}
+use mathlib.Core.Bool.{Bool, true, false}
+use mathlib.Core.List.{List}
+use Prim.Native.Nat.{ℕ, _+_, _≤_, _<_}
+use lib.ListN.{length}
+use Rattle.std.specs.Orderings.{isLt, isLe, passes}
+use Rattle.std.specs.declared.cmp.Ordering.the-variants.{Equal}
+use Rattle.std.specs.declared.option.Option.the-variants.{Some}
+use Rattle.search_sorted.specs.declared.search.SearchResult.{SearchResult}
+use Rattle.search_sorted.specs.declared.search.SearchResult.the-variants.{Found, NotFound}
+use Rattle.search_sorted.specs.declared.search.SearchSortedSide.{SearchSortedSide}
+use Rattle.search_sorted.specs.declared.search.SearchSortedSide.the-variants.{Left, Right}
+use Rattle.search_sorted.specs.Order.{TotalOrder, compareAt}
+
+-- The partition point of a test over the places below a length, as Rust documents `partition_point`:
+-- the test holds at each place before it, and at none from there on.
+pub record PartitionPoint (test : ℕ → Bool) (len place : ℕ) : Type 0 where
+  pub within : place ≤ len
+  pub before : (k : ℕ) → k < place → test k ≡ true
+  pub after : (k : ℕ) → place ≤ k → k < len → test k ≡ false
+
+module _ {K : Type 0} (order : TotalOrder K) (keys : List K) (needle : K) where
+  -- the key at a place is smaller than the needle
+  abbrev pub smaller : ℕ → Bool
+  smaller place = passes isLt (compareAt order keys place needle)
+
+  -- the key at a place is not larger than the needle
+  abbrev pub notLarger : ℕ → Bool
+  notLarger place = passes isLe (compareAt order keys place needle)
+
+  -- the key at a place equals the needle
+  abbrev pub EqualAt : ℕ → Type 0
+  EqualAt place = compareAt order keys place needle ≡ Some Equal
+
+  -- what is asked of the keys on a side
+  abbrev pub side-test : SearchSortedSide → ℕ → Bool
+  side-test Left = smaller
+  side-test Right = notLarger
+
+  -- Found is the first equal place, or on the right the place after the last equal one; where no key is equal,
+  -- NotFound is the number of smaller keys.
+  abbrev pub Answers : SearchSortedSide → SearchResult → Type 0
+  Answers Left (Found i) = EqualAt i × PartitionPoint smaller (length keys) i
+  Answers Right (Found i) = (j : ℕ) × (j + 1 ≡ i) × EqualAt j × PartitionPoint notLarger (length keys) i
+  Answers Left (NotFound i) = ((k : ℕ) → EqualAt k → ⊥) × PartitionPoint smaller (length keys) i
+  Answers Right (NotFound i) = ((k : ℕ) → EqualAt k → ⊥) × PartitionPoint smaller (length keys) i
+
+-- the place that an answer carries
+abbrev pub placeOf : SearchResult → ℕ
+placeOf (Found i) = i
+placeOf (NotFound i) = i

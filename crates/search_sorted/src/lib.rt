@@ -1,0 +1,5 @@
+pub mod order;
+pub mod search;
+pub use order::IndexOrd;
+pub use search::SearchResult;
+pub use search::SearchSortedSide;
