@@ -1,0 +1,4 @@
+pub mod Weights
+pub mod Places
+pub mod Parts
+pub mod Digits

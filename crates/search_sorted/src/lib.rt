@@ -1,5 +1,13 @@
 pub mod order;
+pub mod packed;
+pub mod rising;
 pub mod search;
+pub mod width;
+pub mod writes;
 pub use order::IndexOrd;
+pub use packed::Packed;
+pub use writes::write_number;
+pub use rising::Rising;
 pub use search::SearchResult;
 pub use search::SearchSortedSide;
+pub use width::Width;

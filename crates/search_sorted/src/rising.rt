@@ -1,0 +1,14 @@
+ghost use Prim.Native.Nat.{ℕ, _+_, _*_, _<_, _≤_};
+ghost use Rattle.search_sorted.specs.Packed.{Ascending};
+ghost use Rattle.search_sorted.specs.Numbers.{count, number};
+use crate::packed::Packed;
+
+mod keys;
+mod searches;
+
+/// Packed numbers of which each is above the one before.
+#[derive(Copy)]
+pub struct Rising<'a> {
+    numbers: Packed<'a>,
+    ghost up: { Ascending (number numbers) (count numbers) },
+}
