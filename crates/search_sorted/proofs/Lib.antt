@@ -1,4 +1,9 @@
+pub mod Orders
+pub mod Halving
+pub mod Found
 pub mod Weights
 pub mod Places
 pub mod Parts
 pub mod Digits
+pub mod Compares
+pub mod Lefts

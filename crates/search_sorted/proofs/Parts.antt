@@ -26,12 +26,15 @@ part-of p q w lo hi from to is wide bytes top low =
     record {
       counted = n ∙ omega arith;
       each = λ i h.
-        let here : i < hi - lo = omega (arith, n) in
-        let same : lo ≡ from = omega arith in
-        let e : number q i ≡ number p (lo + i) = rw (wide, bytes, ← is) (number-cut (now (p .bytes)) w lo hi i here) in
-        e ∙ ap (λ k. number p (k + i)) same;
+          let here : i < hi - lo = omega (arith, n) in
+          let same : lo ≡ from = omega arith in
+          let e : number q i ≡ number p (lo + i) = rw (wide, bytes, ← is) (number-cut (now (p .bytes)) w lo hi i here) in
+          e ∙ ap (λ k. number p (k + i)) same;
     }
 
 -- what holds at the size of a width, holds at the size of an equal one
 pub at-width : (P : ℕ → Type 0) (v w : Width) → v ≡ w → P (size w) → P (size v)
 at-width P v w e h = subst (λ x. P (size x)) (sym e) h
+
+pub from-width : (P : ℕ → Type 0) (v w : Width) → v ≡ w → P (size v) → P (size w)
+from-width P v w e h = subst (λ x. P (size x)) e h

@@ -25,7 +25,7 @@ pub weighed-part : (bytes : List ℕ) (k m x w : ℕ) → x + w ≤ m → weighe
 weighed-part bytes k m x zero h = refl
 weighed-part bytes k m x (suc w) h =
     let byte : getD (take m (drop k bytes)) (x + w) 0 ≡ getD bytes (k + x + w) 0 =
-      (let lt : x + w < m = omega arith in let e : k + (x + w) ≡ k + x + w = omega arith in rw (getD-take, getD-drop, e)) in
+    (let lt : x + w < m = omega arith in let e : k + (x + w) ≡ k + x + w = omega arith in rw (getD-take, getD-drop, e)) in
     ap₂ (λ a b. a + b * 256 ^ w) (weighed-part bytes k m x w (omega arith)) byte
 
 module _ (bytes : List ℕ) (w from to : ℕ) where
@@ -49,13 +49,13 @@ module _ (bytes : List ℕ) (w from to : ℕ) where
 pub ascending-more : (f : ℕ → ℕ) (n x : ℕ) → 0 < n → x ≡ f (n - 1) → x < f n → Ascending f n → Ascending f (n + 1)
 ascending-more f n x pos e above up i j lt within =
     elim (cases-lt j n) [
-      inl h ↦ up i j lt h
-    | inr h ↦
-        let last : j ≡ n = omega arith in
-        elim (cases-lt i (n - 1)) [
-          inl l ↦ rw last (omega (arith, up i (n - 1) l (omega arith)))
-        | inr l ↦ let same : i ≡ n - 1 = omega arith in rw (last, same) (omega arith)
-        ]
+      | inl h ↦ up i j lt h
+      | inr h ↦
+          let last : j ≡ n = omega arith in
+          elim (cases-lt i (n - 1)) [
+            | inl l ↦ rw last (omega (arith, up i (n - 1) l (omega arith)))
+            | inr l ↦ let same : i ≡ n - 1 = omega arith in rw (last, same) (omega arith)
+          ]
     ]
 
 pub ascending-one : (f : ℕ → ℕ) → Ascending f 1

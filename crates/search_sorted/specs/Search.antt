@@ -4,9 +4,10 @@ use mathlib.Core.Bool.{Bool, true, false}
 use mathlib.Core.List.{List}
 use Prim.Native.Nat.{ℕ, _+_, _≤_, _<_}
 use lib.ListN.{length}
-use Rattle.std.specs.Orderings.{isLt, isLe, passes}
+use Rattle.std.specs.Orderings.{isLt, isLe, passes, Decides}
 use Rattle.std.specs.declared.cmp.Ordering.the-variants.{Equal}
-use Rattle.std.specs.declared.option.Option.the-variants.{Some}
+use Rattle.std.specs.declared.option.Option.{Option}
+use Rattle.std.specs.declared.option.Option.the-variants.{Some, None}
 use Rattle.search_sorted.specs.declared.search.SearchResult.{SearchResult}
 use Rattle.search_sorted.specs.declared.search.SearchResult.the-variants.{Found, NotFound}
 use Rattle.search_sorted.specs.declared.search.SearchSortedSide.{SearchSortedSide}
@@ -19,6 +20,21 @@ pub record PartitionPoint (test : ℕ → Bool) (len place : ℕ) : Type 0 where
   pub within : place ≤ len
   pub before : (k : ℕ) → k < place → test k ≡ true
   pub after : (k : ℕ) → place ≤ k → k < len → test k ≡ false
+
+-- the place that an answer carries
+abbrev pub placeOf : SearchResult → ℕ
+placeOf (Found i) = i
+placeOf (NotFound i) = i
+
+-- the place of a Found answer
+abbrev pub foundOf : SearchResult → Option ℕ
+foundOf (Found i) = Some i
+foundOf (NotFound i) = None
+
+-- whether an answer is a Found one
+abbrev pub isFound : SearchResult → Bool
+isFound (Found i) = true
+isFound (NotFound i) = false
 
 module _ {K : Type 0} (order : TotalOrder K) (keys : List K) (needle : K) where
   -- the key at a place is smaller than the needle
@@ -46,7 +62,10 @@ module _ {K : Type 0} (order : TotalOrder K) (keys : List K) (needle : K) where
   Answers Left (NotFound i) = ((k : ℕ) → EqualAt k → ⊥) × PartitionPoint smaller (length keys) i
   Answers Right (NotFound i) = ((k : ℕ) → EqualAt k → ⊥) × PartitionPoint smaller (length keys) i
 
--- the place that an answer carries
-abbrev pub placeOf : SearchResult → ℕ
-placeOf (Found i) = i
-placeOf (NotFound i) = i
+  -- the place of an answer is the partition point of what is asked on its side
+  abbrev pub Parts : SearchSortedSide → SearchResult → Type 0
+  Parts side r = PartitionPoint (side-test side) (length keys) (placeOf r)
+
+  -- an answer is Found exactly where some key equals the needle
+  abbrev pub FindsEqual : SearchResult → Type 0
+  FindsEqual r = Decides (isFound r) ((k : ℕ) × EqualAt k)

@@ -9,8 +9,8 @@ use crate::width::read;
 /// Numbers of one width, packed one after another. Bytes at the end that make no whole number are not read.
 #[derive(Clone, Copy)]
 pub struct Packed<'a> {
-    width: Width,
-    bytes: &'a [u8],
+    pub(crate) width: Width,
+    pub(crate) bytes: &'a [u8],
 }
 
 impl<'a> Packed<'a> {

@@ -3,7 +3,6 @@ ghost use Rattle.search_sorted.specs.Packed.{Ascending};
 ghost use Rattle.search_sorted.specs.Numbers.{count, number};
 use crate::packed::Packed;
 
-mod keys;
 mod searches;
 
 /// Packed numbers of which each is above the one before.

@@ -1,13 +1,151 @@
 ghost use mathlib.Core.Path.{_≡_};
+ghost use lib.ListN.{length};
+ghost use Rattle.std.specs.Orderings.{Decides};
+ghost use Rattle.std.specs.declared.option.Option.the-variants.{Some};
+ghost use Rattle.search_sorted.specs.Search.{PartitionPoint, EqualAt, side-test, Answers, Parts, FindsEqual};
+ghost use Rattle.search_sorted.specs.Search.{placeOf, foundOf};
+ghost use Rattle.search_sorted.specs.Shown.{side-text, result-text};
+use crate::order::IndexOrd;
+use std::cmp::Ordering;
+use std::fmt;
 
+/// Which of the places that keep the order is asked for, where keys equal the needle: the first, or the last.
 #[derive(Clone, Copy, PartialEq, Eq, Debug)]
 pub enum SearchSortedSide {
+    /// Before every key that is not smaller.
     Left,
+    /// After every key that is not larger.
     Right,
 }
 
+/// Where the needle stands, or would stand, among the keys.
 #[derive(Clone, Copy, PartialEq, Eq, Debug)]
 pub enum SearchResult {
+    /// Some key equals the needle.
     Found(usize),
+    /// No key equals the needle.
     NotFound(usize),
+}
+
+impl SearchResult {
+    /// The place of a `Found`, and none of a `NotFound`.
+    pub fn to_found(self) -> Option<usize>
+        ensures { λ r. ⌜ r ≡ foundOf self ⌝ }
+    {
+        match self {
+            SearchResult::Found(place) => Some(place),
+            SearchResult::NotFound(_) => None,
+        }
+    }
+
+    /// The place, whether a key was found or not.
+    pub fn to_index(self) -> usize
+        ensures { λ r. ⌜ r ≡ placeOf self ⌝ }
+    {
+        match self {
+            SearchResult::Found(place) => place,
+            SearchResult::NotFound(place) => place,
+        }
+    }
+}
+
+pub impl fmt::Display for SearchSortedSide as SearchSortedSideDisplay {
+    ghost shown = { λ side. Some (side-text side) };
+
+    fn fmt<W: fmt::Write>(&self, f: &mut fmt::Formatter<W>) -> fmt::Result {
+        match *self {
+            SearchSortedSide::Left => f.write_str("left"),
+            SearchSortedSide::Right => f.write_str("right"),
+        }
+    }
+}
+
+pub impl fmt::Display for SearchResult as SearchResultDisplay {
+    ghost shown = { λ r. Some (result-text r) };
+
+    fn fmt<W: fmt::Write>(&self, f: &mut fmt::Formatter<W>) -> fmt::Result {
+        match *self {
+            SearchResult::Found(place) => write!(f, "Found({place})"),
+            SearchResult::NotFound(place) => write!(f, "NotFound({place})"),
+        }
+    }
+}
+
+/// Where the needle belongs among the keys of an ordered sequence: on the left, the number of keys smaller than it;
+/// on the right, the number of keys not larger. It is `Found` exactly when some key equals the needle.
+///
+/// The number of comparisons depends on the number of keys only, and grows with its logarithm.
+pub fn search_sorted<S: IndexOrd>(
+    sequence: &S,
+    needle: &S::Key,
+    side: SearchSortedSide,
+) -> SearchResult
+    ensures answer { λ r. ⌜ Answers (S·IndexOrd .order) (S·IndexOrd .keys (now (sequence .entry))) (now (needle .entry)) side r ⌝ }
+    ensures partition { λ r. ⌜ Parts (S·IndexOrd .order) (S·IndexOrd .keys (now (sequence .entry))) (now (needle .entry)) side r ⌝ }
+    ensures found { λ r. ⌜ FindsEqual (S·IndexOrd .order) (S·IndexOrd .keys (now (sequence .entry))) (now (needle .entry)) r ⌝ }
+{
+    let place = partition_place(sequence, needle, side);
+    let found = match side {
+        SearchSortedSide::Left => is_equal(sequence, place, needle),
+        SearchSortedSide::Right => place > 0 && is_equal(sequence, place - 1, needle),
+    };
+    if found {
+        SearchResult::Found(place)
+    } else {
+        SearchResult::NotFound(place)
+    }
+}
+
+// How many keys go before the needle on a side.
+fn partition_place<S: IndexOrd>(sequence: &S, needle: &S::Key, side: SearchSortedSide) -> usize
+    ensures { λ r. ⌜ PartitionPoint (side-test (S·IndexOrd .order) (S·IndexOrd .keys (now (sequence .entry))) (now (needle .entry)) side) (length (S·IndexOrd .keys (now (sequence .entry)))) r ⌝ }
+{
+    let mut base = 0;
+    let mut size = sequence.index_len();
+    while size > 1 {
+        let half = size / 2;
+        let middle = base + half;
+        base = if goes_before(sequence, middle, needle, side) {
+            middle
+        } else {
+            base
+        };
+        size -= half;
+    }
+    if goes_before(sequence, base, needle, side) {
+        base + 1
+    } else {
+        base
+    }
+}
+
+// Whether the key at a place goes before the needle on a side; none does past the end.
+fn goes_before<S: IndexOrd>(
+    sequence: &S,
+    place: usize,
+    needle: &S::Key,
+    side: SearchSortedSide,
+) -> bool
+    ensures { λ r. ⌜ r ≡ side-test (S·IndexOrd .order) (S·IndexOrd .keys (now (sequence .entry))) (now (needle .entry)) side place ⌝ }
+{
+    let equal_too = match side {
+        SearchSortedSide::Left => false,
+        SearchSortedSide::Right => true,
+    };
+    match sequence.index_cmp(place, needle) {
+        Some(Ordering::Less) => true,
+        Some(Ordering::Equal) => equal_too,
+        Some(Ordering::Greater) => false,
+        None => false,
+    }
+}
+
+// Whether the key at a place equals the needle; none does past the end.
+fn is_equal<S: IndexOrd>(sequence: &S, place: usize, needle: &S::Key) -> bool
+    ensures { λ r. ⌜ Decides r (EqualAt (S·IndexOrd .order) (S·IndexOrd .keys (now (sequence .entry))) (now (needle .entry)) place) ⌝ }
+{
+    match sequence.index_cmp(place, needle) {
+        Some(Ordering::Equal) => true,
+        _ => false,
+    }
 }

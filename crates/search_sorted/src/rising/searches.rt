@@ -3,8 +3,16 @@ ghost use Prim.Native.Nat.{ℕ, _+_, _-_, _*_, _<_, _≤_};
 ghost use lib.ListN.{length};
 ghost use Rattle.search_sorted.specs.Numbers.{count, number, PartOf, FallsFirst};
 ghost use Rattle.std.specs.declared.result.Result.the-variants.{Ok, Err};
+ghost use Rattle.search_sorted.specs.Naturals.{natural};
+ghost use Rattle.search_sorted.specs.Packed.{listed};
+ghost use Rattle.search_sorted.specs.Search.{Answers, Parts};
+use crate::keys::Keys;
+use crate::keys::KeysIndexOrd;
 use crate::packed::Packed;
 use crate::rising::Rising;
+use crate::search::SearchResult;
+use crate::search::SearchSortedSide;
+use crate::search::search_sorted;
 use crate::width::Width;
 
 impl<'a> Rising<'a> {
@@ -42,6 +50,19 @@ impl<'a> Rising<'a> {
     {
         Rising {
             numbers: self.numbers.part(from, to),
+        }
+    }
+    /// Where a number belongs among these, on a side. The width is looked at once, before the search.
+    pub fn search_sorted(&self, needle: u64, side: SearchSortedSide) -> SearchResult
+        ensures answer { λ r. ⌜ Answers natural (listed (number (now (self .entry) .numbers)) (count (now (self .entry) .numbers))) needle side r ⌝ }
+        ensures partition { λ r. ⌜ Parts natural (listed (number (now (self .entry) .numbers)) (count (now (self .entry) .numbers))) needle side r ⌝ }
+    {
+        let bytes = self.numbers.bytes;
+        match self.numbers.width {
+            Width::One => search_sorted(&Keys::<1> { bytes }, &needle, side),
+            Width::Two => search_sorted(&Keys::<2> { bytes }, &needle, side),
+            Width::Four => search_sorted(&Keys::<4> { bytes }, &needle, side),
+            Width::Eight => search_sorted(&Keys::<8> { bytes }, &needle, side),
         }
     }
 }

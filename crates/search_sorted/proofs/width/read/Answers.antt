@@ -15,6 +15,7 @@ add-number-in-loop-k g c =
 
 pub loop-k-again : need.loop-k-again
 loop-k-again g c =
-    let byte : getD (c .args .bytes .now) (g .W * c .args .place + (g .W - 1 - c .loop-k .k)) 0 < 256 = omega arith in
-    (weighed-more (c .args .bytes .now) (g .W * c .args .place) (g .W) (c .loop-k .k) (c .loop-k .number) (omega arith) (c .loop-k .inv .0),
-     power-more (c .loop-k .k) (c .loop-k .number) _ (c .loop-k .inv .1) byte)
+    let byte : getD (c .args .bytes .now) (g .W * c .args .place + (g .W - 1 - c .loop-k .k)) 0 < 256 = omega arith in (
+      weighed-more (c .args .bytes .now) (g .W * c .args .place) (g .W) (c .loop-k .k) (c .loop-k .number) (omega arith) (c .loop-k .inv .0),
+      power-more (c .loop-k .k) (c .loop-k .number) _ (c .loop-k .inv .1) byte,
+    )
