@@ -1,11 +1,10 @@
 -- Where keys equal the needle, by the partition points on the two sides.
-use mathlib.Core.Path.{_≡_, refl, sym, _∙_, ap}
+use mathlib.Core.Path.{_≡_, refl, ap}
 use mathlib.Core.Bool.{true, false}
-use mathlib.Core.Logic.{_⊎_, ⊎-elim}
+use mathlib.Core.Logic.{⊎-elim}
 use mathlib.Core.List.{List}
-use Prim.Native.Nat.{ℕ, _+_, _-_, _≤_, _<_}
+use Prim.Native.Nat.{ℕ, _-_, _<_}
 use native.Mathlib.Omega.{arith}
-use lib.ListN.{length}
 use Rattle.std.specs.Orderings.{isLt, isLe, passes}
 use Rattle.std.proofs.shelf.Tests.{both-ways, cases-lt, false≢true}
 use Rattle.search_sorted.specs.declared.search.SearchResult.{SearchResult}
@@ -13,8 +12,8 @@ use Rattle.search_sorted.specs.declared.search.SearchResult.the-variants.{Foun
 use Rattle.search_sorted.specs.declared.search.SearchSortedSide.{SearchSortedSide}
 use Rattle.search_sorted.specs.declared.search.SearchSortedSide.the-variants.{Left, Right}
 use Rattle.search_sorted.specs.Order.{TotalOrder, NeverDescends, compareAt}
-use Rattle.search_sorted.specs.Search.{PartitionPoint, smaller, notLarger, EqualAt, side-test, Answers, Parts, FindsEqual}
-use Rattle.search_sorted.proofs.Orders.{le-from-lt, lt-or-equal, not-lt, not-le, passed-within, side-before}
+use Rattle.search_sorted.specs.Search.{smaller, notLarger, EqualAt, SidePoint, Answers, FindsEqual}
+use Rattle.search_sorted.proofs.Orders.{lt-or-equal, not-lt, passed-within, side-before}
 
 module _ {K : Type 0} (order : TotalOrder K) (keys : List K) (needle : K) where
   -- an equal key is not smaller, and not larger
@@ -24,8 +23,8 @@ module _ {K : Type 0} (order : TotalOrder K) (keys : List K) (needle : K) where
   equal-not-larger : (k : ℕ) → EqualAt order keys needle k → notLarger order keys needle k ≡ true
   equal-not-larger k e = ap (passes isLe) e
 
-  -- where no key is equal, the two sides have one partition point
-  pub right-is-left : (i : ℕ) → ((k : ℕ) → EqualAt order keys needle k → ⊥) → PartitionPoint (notLarger order keys needle) (length keys) i → PartitionPoint (smaller order keys needle) (length keys) i
+  -- where no key is equal, the place on the right is that on the left
+  pub right-is-left : (i : ℕ) → ((k : ℕ) → EqualAt order keys needle k → ⊥) → SidePoint order keys needle Right i → SidePoint order keys needle Left i
   right-is-left i none p =
       record {
         within = p .within;
@@ -33,26 +32,12 @@ module _ {K : Type 0} (order : TotalOrder K) (keys : List K) (needle : K) where
         after = λ k ge lt. not-lt (compareAt order keys k needle) (p .after k ge lt);
       }
 
-  pub left-is-right : (i : ℕ) → ((k : ℕ) → EqualAt order keys needle k → ⊥) → PartitionPoint (smaller order keys needle) (length keys) i → PartitionPoint (notLarger order keys needle) (length keys) i
-  left-is-right i none p =
-      record {
-        within = p .within;
-        before = λ k lt. le-from-lt (compareAt order keys k needle) (p .before k lt);
-        after = λ k ge lt. not-le (compareAt order keys k needle) (p .after k ge lt) (none k);
-      }
-
   -- the key nearest to a place, on a side, is not equal
   abbrev pub NoneNear : SearchSortedSide → ℕ → Type 0
   NoneNear Left i = EqualAt order keys needle i → ⊥
   NoneNear Right i = 0 < i → EqualAt order keys needle (i - 1) → ⊥
 
-  -- what an answer says of its place, and of equal keys
-  pub parts-from-answer : (side : SearchSortedSide) (r : SearchResult) → Answers order keys needle side r → Parts order keys needle side r
-  parts-from-answer Left (Found i) h = h .1
-  parts-from-answer Right (Found i) h = h .3
-  parts-from-answer Left (NotFound i) h = h .1
-  parts-from-answer Right (NotFound i) h = left-is-right i (h .0) (h .1)
-
+  -- what an answer says of equal keys
   pub finds-from-answer : (side : SearchSortedSide) (r : SearchResult) → Answers order keys needle side r → FindsEqual order keys needle r
   finds-from-answer Left (Found i) h = (λ _. (i, h .0), λ _. refl)
   finds-from-answer Right (Found i) h = (λ _. (h .0, h .2), λ _. refl)
@@ -61,7 +46,7 @@ module _ {K : Type 0} (order : TotalOrder K) (keys : List K) (needle : K) where
 
 module _ {K : Type 0} (order : TotalOrder K) (keys : List K) (needle : K) (rising : NeverDescends order keys) where
   -- where the key at the left place is not equal, none is
-  pub none-left : (i : ℕ) → PartitionPoint (smaller order keys needle) (length keys) i → (EqualAt order keys needle i → ⊥) → (k : ℕ) → EqualAt order keys needle k → ⊥
+  pub none-left : (i : ℕ) → SidePoint order keys needle Left i → (EqualAt order keys needle i → ⊥) → (k : ℕ) → EqualAt order keys needle k → ⊥
   none-left i p here k e =
       ⊎-elim
       (λ lt. equal-not-smaller order keys needle k e (p .before k lt))
@@ -74,7 +59,7 @@ module _ {K : Type 0} (order : TotalOrder K) (keys : List K) (needle : K) (risin
       (cases-lt k i)
 
   -- where the key before the right place is not equal, none is
-  pub none-right : (i : ℕ) → PartitionPoint (notLarger order keys needle) (length keys) i → (0 < i → EqualAt order keys needle (i - 1) → ⊥) → (k : ℕ) → EqualAt order keys needle k → ⊥
+  pub none-right : (i : ℕ) → SidePoint order keys needle Right i → (0 < i → EqualAt order keys needle (i - 1) → ⊥) → (k : ℕ) → EqualAt order keys needle k → ⊥
   none-right i p last k e =
       ⊎-elim
       (λ lt.
@@ -88,6 +73,6 @@ module _ {K : Type 0} (order : TotalOrder K) (keys : List K) (needle : K) (risin
       (cases-lt k i)
 
   -- where it is not, at the partition point, the answer is NotFound
-  pub not-found : (side : SearchSortedSide) (i : ℕ) → PartitionPoint (side-test order keys needle side) (length keys) i → NoneNear order keys needle side i → Answers order keys needle side (NotFound i)
+  pub not-found : (side : SearchSortedSide) (i : ℕ) → SidePoint order keys needle side i → NoneNear order keys needle side i → Answers order keys needle side (NotFound i)
   not-found Left i p near = (none-left i p near, p)
   not-found Right i p near = let none : (k : ℕ) → EqualAt order keys needle k → ⊥ = none-right i p near in (none, right-is-left order keys needle i none p)

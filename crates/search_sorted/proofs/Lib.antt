@@ -1,5 +1,6 @@
 pub mod Orders
 pub mod Halving
+pub mod Steps
 pub mod Found
 pub mod Weights
 pub mod Places
@@ -7,3 +8,5 @@ pub mod Parts
 pub mod Digits
 pub mod Compares
 pub mod Lefts
+pub mod RowMaskBits
+pub mod RowMaskPlaces

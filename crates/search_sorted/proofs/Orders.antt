@@ -36,12 +36,6 @@ not-lt (Some Less) h = h
 not-lt (Some Equal) h = refl
 not-lt (Some Greater) h = refl
 
-pub not-le : (o : Option Ordering) → passes isLt o ≡ false → (o ≡ Some Equal → ⊥) → passes isLe o ≡ false
-not-le None h ne = refl
-not-le (Some Less) h ne = h
-not-le (Some Equal) h ne = absurd (ne refl)
-not-le (Some Greater) h ne = refl
-
 -- an answer turned round
 pub turned-lt : (o : Ordering) → isLt o ≡ true → isLe (reversed o) ≡ false
 turned-lt Less h = refl

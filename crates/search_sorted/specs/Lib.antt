@@ -6,3 +6,5 @@ pub mod Packed
 pub mod Listed
 pub mod Numbers
 pub mod Writes
+pub mod RowMasks
+pub mod RowMaskLaws

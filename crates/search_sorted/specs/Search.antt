@@ -54,17 +54,17 @@ module _ {K : Type 0} (order : TotalOrder K) (keys : List K) (needle : K) where
   side-test Left = smaller
   side-test Right = notLarger
 
+  -- a place is the partition point of what is asked on a side
+  abbrev pub SidePoint : SearchSortedSide → ℕ → Type 0
+  SidePoint side = PartitionPoint (side-test side) (length keys)
+
   -- Found is the first equal place, or on the right the place after the last equal one; where no key is equal,
   -- NotFound is the number of smaller keys.
   abbrev pub Answers : SearchSortedSide → SearchResult → Type 0
-  Answers Left (Found i) = EqualAt i × PartitionPoint smaller (length keys) i
-  Answers Right (Found i) = (j : ℕ) × (j + 1 ≡ i) × EqualAt j × PartitionPoint notLarger (length keys) i
-  Answers Left (NotFound i) = ((k : ℕ) → EqualAt k → ⊥) × PartitionPoint smaller (length keys) i
-  Answers Right (NotFound i) = ((k : ℕ) → EqualAt k → ⊥) × PartitionPoint smaller (length keys) i
-
-  -- the place of an answer is the partition point of what is asked on its side
-  abbrev pub Parts : SearchSortedSide → SearchResult → Type 0
-  Parts side r = PartitionPoint (side-test side) (length keys) (placeOf r)
+  Answers Left (Found i) = EqualAt i × SidePoint Left i
+  Answers Right (Found i) = (j : ℕ) × (j + 1 ≡ i) × EqualAt j × SidePoint Right i
+  Answers Left (NotFound i) = ((k : ℕ) → EqualAt k → ⊥) × SidePoint Left i
+  Answers Right (NotFound i) = ((k : ℕ) → EqualAt k → ⊥) × SidePoint Left i
 
   -- an answer is Found exactly where some key equals the needle
   abbrev pub FindsEqual : SearchResult → Type 0

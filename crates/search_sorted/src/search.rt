@@ -1,8 +1,7 @@
 ghost use mathlib.Core.Path.{_≡_};
-ghost use lib.ListN.{length};
 ghost use Rattle.std.specs.Orderings.{Decides};
 ghost use Rattle.std.specs.declared.option.Option.the-variants.{Some};
-ghost use Rattle.search_sorted.specs.Search.{PartitionPoint, EqualAt, side-test, Answers, Parts, FindsEqual};
+ghost use Rattle.search_sorted.specs.Search.{EqualAt, side-test, SidePoint, Answers, FindsEqual};
 ghost use Rattle.search_sorted.specs.Search.{placeOf, foundOf};
 ghost use Rattle.search_sorted.specs.Shown.{side-text, result-text};
 use crate::order::IndexOrd;
@@ -81,7 +80,7 @@ pub fn search_sorted<S: IndexOrd>(
     side: SearchSortedSide,
 ) -> SearchResult
     ensures answer { λ r. ⌜ Answers (S·IndexOrd .order) (S·IndexOrd .keys (now (sequence .entry))) (now (needle .entry)) side r ⌝ }
-    ensures partition { λ r. ⌜ Parts (S·IndexOrd .order) (S·IndexOrd .keys (now (sequence .entry))) (now (needle .entry)) side r ⌝ }
+    ensures partition { λ r. ⌜ SidePoint (S·IndexOrd .order) (S·IndexOrd .keys (now (sequence .entry))) (now (needle .entry)) side (placeOf r) ⌝ }
     ensures found { λ r. ⌜ FindsEqual (S·IndexOrd .order) (S·IndexOrd .keys (now (sequence .entry))) (now (needle .entry)) r ⌝ }
 {
     let place = partition_place(sequence, needle, side);
@@ -96,27 +95,29 @@ pub fn search_sorted<S: IndexOrd>(
     }
 }
 
-// How many keys go before the needle on a side.
+// How many keys go before the needle on a side. The first test leaves as many places as a power of two, within the
+// sequence, and each other test tells one bit of the place. What the keys hold picks no branch in the loop, since a
+// bit is added whether it is 0 or 1.
 fn partition_place<S: IndexOrd>(sequence: &S, needle: &S::Key, side: SearchSortedSide) -> usize
-    ensures { λ r. ⌜ PartitionPoint (side-test (S·IndexOrd .order) (S·IndexOrd .keys (now (sequence .entry))) (now (needle .entry)) side) (length (S·IndexOrd .keys (now (sequence .entry)))) r ⌝ }
+    ensures { λ r. ⌜ SidePoint (S·IndexOrd .order) (S·IndexOrd .keys (now (sequence .entry))) (now (needle .entry)) side r ⌝ }
 {
-    let mut base = 0;
-    let mut size = sequence.index_len();
-    while size > 1 {
-        let half = size / 2;
-        let middle = base + half;
-        base = if goes_before(sequence, middle, needle, side) {
-            middle
-        } else {
-            base
-        };
-        size -= half;
+    let len = sequence.index_len();
+    if len == 0 {
+        return 0;
     }
-    if goes_before(sequence, base, needle, side) {
-        base + 1
+    let mut bit = len.ilog2();
+    let first = (1usize << bit) - 1;
+    let mut place = if goes_before(sequence, first, needle, side) {
+        len - first
     } else {
-        base
+        0
+    };
+    while bit > 0 {
+        bit -= 1;
+        let middle = place + ((1usize << bit) - 1);
+        place += (goes_before(sequence, middle, needle, side) as usize) << bit;
     }
+    place
 }
 
 // Whether the key at a place goes before the needle on a side; none does past the end.

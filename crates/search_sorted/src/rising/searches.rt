@@ -5,7 +5,7 @@ ghost use Rattle.search_sorted.specs.Numbers.{count, number, PartOf, FallsFirs
 ghost use Rattle.std.specs.declared.result.Result.the-variants.{Ok, Err};
 ghost use Rattle.search_sorted.specs.Naturals.{natural};
 ghost use Rattle.search_sorted.specs.Packed.{listed};
-ghost use Rattle.search_sorted.specs.Search.{Answers, Parts};
+ghost use Rattle.search_sorted.specs.Search.{Answers, SidePoint, placeOf};
 use crate::keys::Keys;
 use crate::keys::KeysIndexOrd;
 use crate::packed::Packed;
@@ -55,7 +55,7 @@ impl<'a> Rising<'a> {
     /// Where a number belongs among these, on a side. The width is looked at once, before the search.
     pub fn search_sorted(&self, needle: u64, side: SearchSortedSide) -> SearchResult
         ensures answer { λ r. ⌜ Answers natural (listed (number (now (self .entry) .numbers)) (count (now (self .entry) .numbers))) needle side r ⌝ }
-        ensures partition { λ r. ⌜ Parts natural (listed (number (now (self .entry) .numbers)) (count (now (self .entry) .numbers))) needle side r ⌝ }
+        ensures partition { λ r. ⌜ SidePoint natural (listed (number (now (self .entry) .numbers)) (count (now (self .entry) .numbers))) needle side (placeOf r) ⌝ }
     {
         let bytes = self.numbers.bytes;
         match self.numbers.width {

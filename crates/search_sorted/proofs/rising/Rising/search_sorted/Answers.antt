@@ -7,7 +7,7 @@ use Rattle.search_sorted.specs.declared.search.SearchSortedSide.{SearchSortedS
 use Rattle.search_sorted.specs.declared.width.Width.the-variants.{One, Two, Four, Eight}
 use Rattle.search_sorted.specs.Naturals.{natural}
 use Rattle.search_sorted.specs.Packed.{numberAt, listed, Ascending}
-use Rattle.search_sorted.specs.Search.{Answers, Parts}
+use Rattle.search_sorted.specs.Search.{Answers, SidePoint, placeOf}
 use Rattle.search_sorted.proofs.Parts.{at-width, from-width}
 use Rattle.search_sorted.proofs.rising.Rising.search_sorted.Needs as need
 
@@ -21,7 +21,7 @@ answers bytes x side r size = Answers natural (listed (numberAt bytes size) (len
 
 -- where its place parts them
 abbrev parts : List ℕ → ℕ → SearchSortedSide → SearchResult → ℕ → Type 0
-parts bytes x side r size = Parts natural (listed (numberAt bytes size) (length bytes / size)) x side r
+parts bytes x side r size = SidePoint natural (listed (numberAt bytes size) (length bytes / size)) x side (placeOf r)
 
 pub ghost-search-sorted : need.ghost-search-sorted
 ghost-search-sorted c =
