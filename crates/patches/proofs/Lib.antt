@@ -1,0 +1,3 @@
+pub mod Unders
+pub mod Judges
+pub mod Files

@@ -1,1 +1,6 @@
 pub mod Refusals
+pub mod Chunks
+pub mod Indices
+pub mod Tables
+pub mod Columns
+pub mod Loads

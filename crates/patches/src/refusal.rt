@@ -43,6 +43,21 @@ pub struct Refusal {
     pub place: u64,
 }
 
+impl Refusal {
+    // A refusal by a part, at a place.
+    pub(crate) fn by(part: Part, reason: Reason, place: u64) -> Self
+        ensures reason { λ r. ⌜ r .reason ≡ reason ⌝ }
+        ensures part { λ r. ⌜ r .part ≡ part ⌝ }
+        ensures place { λ r. ⌜ r .place ≡ place ⌝ }
+    {
+        Refusal {
+            reason,
+            part,
+            place,
+        }
+    }
+}
+
 impl Reason {
     /// The number that stands for the reason in documents and messages.
     pub fn number(self) -> u64
