@@ -1,3 +1,7 @@
 pub mod Unders
 pub mod Judges
 pub mod Files
+pub mod Seeks
+pub mod Shifts
+pub mod Entries
+pub mod Rows

@@ -1,6 +1,6 @@
 -- A column by its patches.
 use mathlib.Core.Path.{_≡_}
-use Prim.Native.Nat.{ℕ, _+_}
+use Prim.Native.Nat.{ℕ, _+_, _-_}
 use denote.Ref.{now}
 use Rattle.std.specs.declared.option.Option.{Option}
 use Rattle.search_sorted.specs.Numbers.{count, number}
@@ -16,6 +16,10 @@ patches c = count (c .indices .numbers)
 -- the stored index at a place
 abbrev pub index : {V : Type 0} → Column V → ℕ → ℕ
 index c place = number (c .indices .numbers) place
+
+-- the row of the patch at a place
+abbrev pub rowAt : {V : Type 0} → Column V → ℕ → ℕ
+rowAt c place = index c place - c .offset
 
 -- the patch of a row: the value beside the index that is offset + row
 abbrev pub patchAt : {V : Type 0} → Column V → ℕ → Option V

@@ -4,3 +4,4 @@ pub mod Indices
 pub mod Tables
 pub mod Columns
 pub mod Loads
+pub mod Lookups
