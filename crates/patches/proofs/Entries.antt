@@ -70,3 +70,7 @@ module _ (f : ℕ → ℕ) (n offset rows : ℕ) (inside : Inside f n offset row
   pub own-entry : ((c : ℕ) → 1 ≤ c → c < entryCount chunks → entry chunks c ≡ entry chunks 0 + within chunks + countUnder f n (chunkStart offset c)) → (c : ℕ) → 1 ≤ c → c < count (t .entries) → number (t .entries) c ≡ number (t .entries) 0 + t .within + countUnder f n (chunkStart offset c)
   own-entry counted =
       subst (λ o. (c : ℕ) → 1 ≤ c → c < entryCount o → entry o c ≡ entry o 0 + within o + countUnder f n (chunkStart offset c)) own counted
+
+-- what entry 0, within and the indices come to
+pub own-low : (n bound : ℕ) (chunks : Option ChunkOffsets) (t : ChunkOffsets) → chunks ≡ Some t → entry chunks 0 + within chunks + n ≤ bound → number (t .entries) 0 + t .within + n ≤ bound
+own-low n bound chunks t own h = subst (λ o. entry o 0 + within o + n ≤ bound) own h

@@ -1,7 +1,11 @@
 pub mod Unders
+pub mod Gaps
 pub mod Judges
 pub mod Files
 pub mod Seeks
 pub mod Shifts
 pub mod Entries
 pub mod Rows
+pub mod Kept
+pub mod Cuts
+pub mod Narrowing

@@ -13,12 +13,19 @@ use Rattle.search_sorted.specs.declared.search.SearchResult.the-variants.{Found
 use Rattle.search_sorted.specs.declared.search.SearchSortedSide.the-variants.{Left}
 use Rattle.search_sorted.specs.Naturals.{natural}
 use Rattle.search_sorted.specs.Packed.{listed}
-use Rattle.search_sorted.specs.Search.{Answers, foundOf}
+use Rattle.search_sorted.specs.Search.{Answers, foundOf, placeOf}
+use Rattle.patches.specs.Indices.{countUnder}
+use Rattle.patches.proofs.Unders.{split-under}
 use Rattle.search_sorted.proofs.Lefts.{Split, Finds, finds-from}
 use Rattle.patches.specs.declared.column.Column.{Column}
 use Rattle.patches.specs.Columns.{index, patches, patchAt}
 use Rattle.patches.specs.Lookups.{LooksUp}
 use Rattle.patches.proofs.Seeks.{seek-none, seek-some, seek-past}
+
+-- a left search parts the indices at its place
+found-split : (f : ℕ → ℕ) (n x : ℕ) (r : SearchResult) → Finds f n x r → Split f n x (placeOf r)
+found-split f n x (Found i) a = a .2
+found-split f n x (NotFound i) a = a .1
 
 module _ {V : Type 0} (c : Column V) (row : ℕ) where
   -- the place that is found is below the number of patches
@@ -51,4 +58,14 @@ module _ {V : Type 0} (c : Column V) (row : ℕ) where
             (let a = finds-from (index c) (patches c) (c .offset + row) (NotFound j) (l .among h) in
             sym (seek-none (index c) (c .offset + row) (now (c .values)) (λ k q z. a .0 k (omega (arith, c .paired)) z)))
         | inr h ↦ sym (seek-past (index c) (now (c .values)) (patches c) (c .offset) (c .rows) row (c .paired) (c .inside) h)
+      ]
+
+  -- the place of a row is the number of patches before it
+  pub looked-place : (r : SearchResult) → LooksUp c row r → row ≤ c .rows → placeOf r ≡ countUnder (index c) (patches c) (c .offset + row)
+  looked-place r l le =
+      elim (cases-lt row (c .rows)) [
+        | inl h ↦ sym (split-under (index c) (c .offset + row) (patches c) (placeOf r) (found-split (index c) (patches c) (c .offset + row) r (finds-from (index c) (patches c) (c .offset + row) r (l .among h))))
+        | inr h ↦
+            ap placeOf (l .past h)
+            ∙ sym (split-under (index c) (c .offset + row) (patches c) (patches c) (record { within = omega arith; before = λ k q. omega (arith, c .inside k q); after = λ k q z. absurd (omega arith) }))
       ]

@@ -12,7 +12,7 @@ use Rattle.std.specs.declared.option.Option.the-variants.{Some, None}
 use Rattle.patches.specs.Indices.{seek, Inside}
 
 module _ {V : Type 0} (f : ℕ → ℕ) (x : ℕ) where
-  seek-none-from : (i : ℕ) (vs : List V) → ((k : ℕ) → i ≤ k → k < i + length vs → f k ≡ x → ⊥) → seek f x i vs ≡ None
+  pub seek-none-from : (i : ℕ) (vs : List V) → ((k : ℕ) → i ≤ k → k < i + length vs → f k ≡ x → ⊥) → seek f x i vs ≡ None
   seek-none-from i [] non = refl
   seek-none-from i (v ∷ vs) non =
       cond-false (eqb (f i) x) (Some v) _ (ne-eqb (f i) x (non i (omega arith) (omega arith)))

@@ -12,6 +12,7 @@ use search_sorted::Rising;
 
 mod loads;
 mod lookups;
+mod narrows;
 
 /// A column of corrections: rows, some of which have a patch. The patched row of a stored index is the index less the
 /// offset. Indices rise, lie among the rows, and have a value each; chunk data, if there are any, fit them.
