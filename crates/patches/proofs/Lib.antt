@@ -5,3 +5,4 @@ pub mod Seeks
 pub mod Shifts
 pub mod Entries
 pub mod Rows
+pub mod ChunkCells

@@ -5,3 +5,4 @@ pub mod Tables
 pub mod Columns
 pub mod Loads
 pub mod Lookups
+pub mod Cells
