@@ -9,3 +9,4 @@ pub mod Rows
 pub mod Kept
 pub mod Cuts
 pub mod Narrowing
+pub mod ChunkCells

@@ -6,3 +6,4 @@ pub mod Columns
 pub mod Loads
 pub mod Lookups
 pub mod Narrows
+pub mod Cells

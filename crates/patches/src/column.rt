@@ -10,6 +10,7 @@ ghost use Rattle.patches.specs.Tables.{hasTable, entryCount, entry, within};
 use crate::table::ChunkOffsets;
 use search_sorted::Rising;
 
+mod cells;
 mod loads;
 mod lookups;
 mod narrows;
