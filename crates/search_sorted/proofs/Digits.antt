@@ -1,8 +1,8 @@
 -- Eight bytes that are written one after another, the least first.
-use mathlib.Core.Path.{_≡_, refl, sym, ap, ap₂, _∙_}
+use mathlib.Core.Path.{_≡_, refl, ap, ap₂, _∙_}
 use mathlib.Core.List.{List}
-use mathlib.Core.Logic.{_⊎_, inl, inr, _≢_}
-use Prim.Native.Nat.{ℕ, zero, suc, _+_, _-_, _*_, _/_, _%_, _^_, _≤_, _<_}
+use mathlib.Core.Logic.{_≢_}
+use Prim.Native.Nat.{ℕ, zero, suc, _+_, _*_, _/_, _%_, _^_, _≤_, _<_}
 use native.Mathlib.Omega.{arith}
 use native.Mathlib.Nat.{pow-suc, mul-assoc, mul-comm, mul-add}
 use native.Mathlib.Numerals.{add-one}
@@ -25,7 +25,3 @@ digit-more bytes from k left whole room e =
     let split : left ≡ left % 256 + 256 * (left / 256) = omega arith in
     let parts : 256 ^ k * left ≡ 256 ^ k * (left % 256) + 256 ^ k * (256 * (left / 256)) = ap (λ x. 256 ^ k * x) split ∙ mul-add (256 ^ k) (left % 256) (256 * (left / 256)) in
     rw (add-one, pow-suc, low, here) (omega (arith, e, parts, mul-comm (256 ^ k) (left % 256), mul-assoc (256 ^ k) 256 (left / 256)))
-
--- nothing is left above eight bytes
-pub digit-all : (w left whole : ℕ) → w + 256 ^ 8 * left ≡ whole → whole < 2 ^ 64 → w ≡ whole
-digit-all w left whole e h = omega arith

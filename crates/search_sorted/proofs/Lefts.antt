@@ -1,8 +1,8 @@
 -- What a left search among rising numbers says of the numbers themselves, and back.
-use mathlib.Core.Path.{_≡_, refl, sym, ap, _∙_}
-use mathlib.Core.Bool.{Bool, true, false}
-use mathlib.Core.Logic.{_⊎_, inl, inr}
-use Prim.Native.Nat.{ℕ, _+_, _≤_, _<_}
+use mathlib.Core.Path.{_≡_, sym, ap, _∙_}
+use mathlib.Core.Bool.{true, false}
+use mathlib.Core.Logic.{inl, inr}
+use Prim.Native.Nat.{ℕ, _≤_, _<_}
 use native.Mathlib.Omega.{arith}
 use lib.ListN.{length}
 use Rattle.std.proofs.shelf.Tests.{cases-lt, false≢true}
@@ -10,11 +10,10 @@ use Rattle.std.specs.Keys.{rank, ranks}
 use Rattle.std.specs.Orderings.{isLt, passes, Ranked}
 use Rattle.std.specs.declared.cmp.Ordering.{Ordering}
 use Rattle.std.specs.declared.cmp.Ordering.the-variants.{Less, Equal, Greater}
-use Rattle.std.specs.declared.option.Option.the-variants.{Some, None}
+use Rattle.std.specs.declared.option.Option.the-variants.{Some}
 use Rattle.search_sorted.specs.declared.search.SearchResult.{SearchResult}
 use Rattle.search_sorted.specs.declared.search.SearchResult.the-variants.{Found, NotFound}
 use Rattle.search_sorted.specs.declared.search.SearchSortedSide.the-variants.{Left}
-use Rattle.search_sorted.specs.Order.{compareAt}
 use Rattle.search_sorted.specs.Search.{PartitionPoint, smaller, EqualAt, Answers}
 use Rattle.search_sorted.specs.Naturals.{natural, rank-is}
 use Rattle.search_sorted.specs.Packed.{listed}

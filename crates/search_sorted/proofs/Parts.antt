@@ -1,13 +1,13 @@
 -- A part of packed numbers.
-use mathlib.Core.Path.{_≡_, refl, sym, ap, ap₂, _∙_, subst}
-use Prim.Native.Nat.{ℕ, _+_, _-_, _*_, _/_, _≤_, _<_, min}
+use mathlib.Core.Path.{_≡_, sym, ap, _∙_, subst}
+use Prim.Native.Nat.{ℕ, _+_, _-_, _/_, _≤_, _<_, min}
 use native.Mathlib.Omega.{arith}
 use lib.ListN.{length}
 use denote.Ref.{now}
 use Rattle.search_sorted.specs.declared.width.Width.{Width}
 use Rattle.search_sorted.specs.declared.width.Width.the-variants.{One, Two, Four, Eight}
 use Rattle.search_sorted.specs.declared.packed.Packed.{Packed}
-use Rattle.search_sorted.specs.Packed.{size, numberAt}
+use Rattle.search_sorted.specs.Packed.{size}
 use Rattle.search_sorted.specs.Numbers.{count, number, PartOf}
 use Rattle.search_sorted.proofs.Places.{cut, number-cut, count-cut}
 

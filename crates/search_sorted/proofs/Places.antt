@@ -1,14 +1,12 @@
 -- Where packed numbers lie among their bytes.
 use mathlib.Core.Path.{_≡_, refl, sym, ap, ap₂, _∙_}
 use mathlib.Core.List.{List}
-use mathlib.Core.Logic.{_⊎_, inl, inr}
 use Prim.Native.Nat.{ℕ, zero, suc, _+_, _-_, _*_, _/_, _^_, _≤_, _<_}
 use native.Mathlib.Omega.{arith}
 use native.Mathlib.Nat.{add-mul, mul-add, mul-comm, mul-sub, mul-one, le-div-iff-mul-le, mul-le-mul-left, mul-div-cancel-left, div-mul-le-self}
 use lib.ListN.{length, getD, take, drop, length-take, length-drop}
 use lib.Seq.{getD-take, getD-drop}
-use Rattle.std.proofs.shelf.Tests.{cases-lt}
-use Rattle.search_sorted.specs.Packed.{weighed, numberAt, Ascending}
+use Rattle.search_sorted.specs.Packed.{weighed, numberAt}
 
 -- the bytes of the number at a place are among the bytes
 pub room : (w place len : ℕ) → 0 < w → place < len / w → w * place + w ≤ len
@@ -44,22 +42,3 @@ module _ (bytes : List ℕ) (w from to : ℕ) where
       let all : w * to ≤ length bytes = some-bytes w to (length bytes) le in
       let long : length cut ≡ w * (to - from) = simp (length-take, length-drop) (omega (arith, mul-sub w to from)) in
       ap (λ n. n / w) long ∙ mul-div-cancel-left (to - from) pos
-
--- one more number, above the last
-pub ascending-more : (f : ℕ → ℕ) (n x : ℕ) → 0 < n → x ≡ f (n - 1) → x < f n → Ascending f n → Ascending f (n + 1)
-ascending-more f n x pos e above up i j lt within =
-    elim (cases-lt j n) [
-      | inl h ↦ up i j lt h
-      | inr h ↦
-          let last : j ≡ n = omega arith in
-          elim (cases-lt i (n - 1)) [
-            | inl l ↦ rw last (omega (arith, up i (n - 1) l (omega arith)))
-            | inr l ↦ let same : i ≡ n - 1 = omega arith in rw (last, same) (omega arith)
-          ]
-    ]
-
-pub ascending-one : (f : ℕ → ℕ) → Ascending f 1
-ascending-one f i j lt within = absurd (omega arith)
-
-pub ascending-none : (f : ℕ → ℕ) (n : ℕ) → n ≡ 0 → Ascending f n
-ascending-none f n e i j lt within = absurd (omega arith)

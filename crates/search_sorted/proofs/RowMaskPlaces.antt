@@ -1,33 +1,21 @@
 -- How the set row at a place compares with a row, by the set rows before that.
-use mathlib.Core.Path.{_≡_, refl, sym, ap, _∙_}
+use mathlib.Core.Path.{_≡_, sym, ap, _∙_}
 use mathlib.Core.Bool.{Bool, true, false, _&&_}
-use mathlib.Core.Logic.{_⊎_, inl, inr}
-use mathlib.Core.List.{List, [], _∷_}
-use Prim.Native.Nat.{ℕ, zero, suc, min, _+_, _≤_, _<_}
+use mathlib.Core.Logic.{inl, inr}
+use mathlib.Core.List.{List}
+use Prim.Native.Nat.{ℕ, min, _≤_, _<_}
 use native.Mathlib.Omega.{arith}
 use lib.Dec.{ltb}
 use lib.ListN.{length, getD}
 use Rattle.std.proofs.shelf.Tests.{ltb-true, eqb-true, lt-ltb, eq-eqb, and-parts, and-from, both-ways, cases-lt}
 use Rattle.std.specs.declared.cmp.Ordering.{Ordering}
 use Rattle.std.specs.declared.cmp.Ordering.the-variants.{Less, Equal, Greater}
-use Rattle.std.specs.declared.option.Option.{Option}
 use Rattle.std.specs.declared.option.Option.the-variants.{Some, None}
-use Rattle.search_sorted.specs.Order.{TotalOrder, compareAt}
+use Rattle.search_sorted.specs.Order.{compareAt}
 use Rattle.search_sorted.specs.Naturals.{natural, rank-is}
 use Rattle.search_sorted.specs.RowMasks.{bit, isSet, setBelow, setRows}
 use Rattle.search_sorted.specs.RowMaskLaws.{RowAt, row-at, rows-length, below-earlier, below-set, below-same}
-
-pub compare-within : {K : Type 0} (order : TotalOrder K) (keys : List K) (place : ℕ) (needle d : K) → place < length keys
-    → compareAt order keys place needle ≡ Some (order .compare (getD keys place d) needle)
-compare-within order [] place needle d h = absurd (omega arith)
-compare-within order (key ∷ keys) zero needle d h = refl
-compare-within order (key ∷ keys) (suc place) needle d h = compare-within order keys place needle d (omega arith)
-
-pub compare-past : {K : Type 0} (order : TotalOrder K) (keys : List K) (place : ℕ) (needle : K) → length keys ≤ place
-    → compareAt order keys place needle ≡ None
-compare-past order [] place needle h = refl
-compare-past order (key ∷ keys) zero needle h = absurd (omega arith)
-compare-past order (key ∷ keys) (suc place) needle h = compare-past order keys place needle (omega arith)
+use Rattle.search_sorted.proofs.Orders.{compare-within, compare-past}
 
 -- the rows of a mask, of which `total` are set, `before` of them before the needle
 module _ (bytes : List ℕ) (rows place needle total : ℕ) (all : total ≡ setBelow bytes rows) where

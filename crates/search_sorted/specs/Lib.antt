@@ -5,6 +5,7 @@ pub mod Naturals
 pub mod Packed
 pub mod Listed
 pub mod Numbers
+pub mod Loads
 pub mod Writes
 pub mod RowMasks
 pub mod RowMaskLaws

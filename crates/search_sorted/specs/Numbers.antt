@@ -1,6 +1,7 @@
 -- What packed numbers are as a list of numbers.
 use mathlib.Core.Path.{_≡_}
 use mathlib.Core.Bool.{cond}
+use mathlib.Core.List.{List}
 use Prim.Native.Nat.{ℕ, _+_, _-_, _/_, _≤_, _<_, min}
 use lib.Dec.{ltb}
 use lib.ListN.{length}
@@ -8,7 +9,7 @@ use denote.Ref.{now}
 use Rattle.std.specs.declared.option.Option.{Option}
 use Rattle.std.specs.declared.option.Option.the-variants.{Some, None}
 use Rattle.search_sorted.specs.declared.packed.Packed.{Packed}
-use Rattle.search_sorted.specs.Packed.{size, numberAt, Ascending}
+use Rattle.search_sorted.specs.Packed.{size, numberAt, Ascending, listed}
 
 -- how many whole numbers there are
 abbrev pub count : Packed → ℕ
@@ -17,6 +18,10 @@ count p = length (now (p .bytes)) / size (p .width)
 -- the number at a place
 abbrev pub number : Packed → ℕ → ℕ
 number p place = numberAt (now (p .bytes)) (size (p .width)) place
+
+-- the numbers as a list
+abbrev pub numbersOf : Packed → List ℕ
+numbersOf p = listed (number p) (count p)
 
 -- what stands at a place below n, or none past the end
 abbrev pub got : (ℕ → ℕ) → ℕ → ℕ → Option ℕ

@@ -1,5 +1,4 @@
 -- Packed numbers: unsigned, little-endian, of 1, 2, 4 or 8 bytes each, one after another (Arrow's layout).
-use mathlib.Core.Path.{_≡_}
 use mathlib.Core.List.{List, map}
 use Prim.Native.Nat.{ℕ, zero, suc, _+_, _*_, _^_, _<_}
 use lib.ListN.{getD}

@@ -1,4 +1,3 @@
-ghost use Prim.Native.Nat.{ℕ, _+_, _*_, _<_, _≤_};
 ghost use Rattle.search_sorted.specs.Packed.{Ascending};
 ghost use Rattle.search_sorted.specs.Numbers.{count, number};
 use crate::packed::Packed;

@@ -1,6 +1,6 @@
 ghost use mathlib.Core.Path.{_≡_};
 ghost use mathlib.Core.Bool.{_&&_};
-ghost use Prim.Native.Nat.{ℕ, min, _+_, _*_, _/_, _^_, _≤_, _<_};
+ghost use Prim.Native.Nat.{min, _+_, _*_, _/_, _^_, _≤_, _<_};
 ghost use lib.Dec.{eqb, ltb};
 ghost use lib.ListN.{length, getD};
 ghost use denote.Ref.{now};

@@ -1,10 +1,7 @@
 ghost use mathlib.Core.Path.{_≡_};
-ghost use Prim.Native.Nat.{ℕ, _+_, _-_, _*_, _<_, _≤_};
-ghost use lib.ListN.{length};
-ghost use Rattle.search_sorted.specs.Numbers.{count, number, PartOf, FallsFirst};
-ghost use Rattle.std.specs.declared.result.Result.the-variants.{Ok, Err};
+ghost use Rattle.search_sorted.specs.Numbers.{count, numbersOf, PartOf};
+ghost use Rattle.search_sorted.specs.Loads.{Loads};
 ghost use Rattle.search_sorted.specs.Naturals.{natural};
-ghost use Rattle.search_sorted.specs.Packed.{listed};
 ghost use Rattle.search_sorted.specs.Search.{Answers, SidePoint, placeOf};
 use crate::keys::Keys;
 use crate::keys::KeysIndexOrd;
@@ -28,7 +25,7 @@ impl<'a> Rising<'a> {
     /// Takes these numbers in place of its own, if each is above the one before. Otherwise it names the first place
     /// whose number is not, and keeps its own.
     pub fn load(&mut self, numbers: Packed<'a>) -> Result<(), usize>
-        ensures { λ r. ⌜ elim r [ Ok _ ↦ now (self .exit) .numbers ≡ numbers .entry | Err p ↦ (now (self .exit) ≡ now (self .entry)) × FallsFirst (number (numbers .entry)) (count (numbers .entry)) p ] ⌝ }
+        ensures { λ r. ⌜ Loads (now (self .entry)) (now (self .exit)) (numbers .entry) r ⌝ }
     {
         if let Some(place) = numbers.first_fall() {
             return Err(place);
@@ -52,10 +49,11 @@ impl<'a> Rising<'a> {
             numbers: self.numbers.part(from, to),
         }
     }
+
     /// Where a number belongs among these, on a side. The width is looked at once, before the search.
     pub fn search_sorted(&self, needle: u64, side: SearchSortedSide) -> SearchResult
-        ensures answer { λ r. ⌜ Answers natural (listed (number (now (self .entry) .numbers)) (count (now (self .entry) .numbers))) needle side r ⌝ }
-        ensures partition { λ r. ⌜ SidePoint natural (listed (number (now (self .entry) .numbers)) (count (now (self .entry) .numbers))) needle side (placeOf r) ⌝ }
+        ensures answer { λ r. ⌜ Answers natural (numbersOf (now (self .entry) .numbers)) needle side r ⌝ }
+        ensures partition { λ r. ⌜ SidePoint natural (numbersOf (now (self .entry) .numbers)) needle side (placeOf r) ⌝ }
     {
         let bytes = self.numbers.bytes;
         match self.numbers.width {

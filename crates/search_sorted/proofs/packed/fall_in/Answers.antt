@@ -1,8 +1,6 @@
-use Prim.Native.Nat.{ℕ, _+_, _-_, _<_}
 use native.Mathlib.Omega.{arith}
 use lib.ListN.{length}
-use Rattle.search_sorted.proofs.Places.{room, ascending-more, ascending-one, ascending-none}
-use Rattle.search_sorted.specs.Packed.{numberAt}
+use Rattle.search_sorted.proofs.Places.{room}
 use Rattle.search_sorted.proofs.packed.fall_in.Needs as need
 
 pub read-before-requires : need.read-before-requires

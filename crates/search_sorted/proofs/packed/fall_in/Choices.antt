@@ -1,5 +1,5 @@
 use mathlib.Core.Path.{_≡_}
-use Prim.Native.Nat.{ℕ, _-_, _<_}
+use Prim.Native.Nat.{_-_}
 use Rattle.search_sorted.specs.Packed.{numberAt, Ascending}
 use Rattle.search_sorted.proofs.packed.fall_in.Given as given
 

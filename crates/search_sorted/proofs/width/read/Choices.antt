@@ -1,5 +1,5 @@
 use mathlib.Core.Path.{_≡_}
-use Prim.Native.Nat.{ℕ, _+_, _-_, _*_, _^_, _<_}
+use Prim.Native.Nat.{_+_, _-_, _^_, _<_}
 use Rattle.search_sorted.specs.Packed.{weighed}
 use Rattle.search_sorted.proofs.width.read.Given as given
 

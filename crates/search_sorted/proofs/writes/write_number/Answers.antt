@@ -1,9 +1,9 @@
-use mathlib.Core.Path.{_≡_, _∙_}
-use mathlib.Core.Logic.{_⊎_, inl, inr, _≢_}
-use Prim.Native.Nat.{ℕ, _+_, _*_, _<_}
+use mathlib.Core.Path.{_∙_}
+use mathlib.Core.Logic.{inl, inr, _≢_}
+use Prim.Native.Nat.{_+_, _*_}
 use native.Mathlib.Omega.{arith}
 use lib.Seq.{getD-set-other}
-use Rattle.search_sorted.proofs.Digits.{digit-more, digit-all}
+use Rattle.search_sorted.proofs.Digits.{digit-more}
 use Rattle.search_sorted.proofs.writes.write_number.Needs as need
 
 pub loop-k-again : need.loop-k-again

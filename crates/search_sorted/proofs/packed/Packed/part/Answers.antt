@@ -1,10 +1,7 @@
 use mathlib.Core.Path.{_≡_, refl}
-use Prim.Native.Nat.{ℕ, _+_, _-_, _*_, _/_, _≤_, _<_, min}
+use Prim.Native.Nat.{min}
 use native.Mathlib.Omega.{arith}
-use lib.ListN.{length}
-use Rattle.search_sorted.specs.declared.packed.Packed.{Packed}
-use Rattle.search_sorted.specs.Packed.{size, numberAt}
-use Rattle.search_sorted.specs.Numbers.{count, number}
+use Rattle.search_sorted.specs.Numbers.{count}
 use Rattle.search_sorted.proofs.Parts.{part-of}
 use Rattle.search_sorted.proofs.packed.Packed.part.Needs as need
 use Rattle.search_sorted.proofs.packed.Packed.part.Needs.{then-to-len, else-to-len, then-from-to, else-from-to}

@@ -1,5 +1,5 @@
 use native.Mathlib.Omega.{arith}
-use Prim.Native.Nat.{ℕ, _+_, _-_, _<_}
+use Prim.Native.Nat.{_+_}
 use Rattle.search_sorted.proofs.rising.Rising.part.Needs as need
 
 pub ghost-result : need.ghost-result
