@@ -21,10 +21,6 @@ use Rattle.patches.proofs.Judges.{chunks-some}
 use Rattle.patches.proofs.Seeks.{seek-none, seek-some}
 
 module _ {V : Type 0} (f : ℕ → ℕ) (base from to : ℕ) (values before : List V) where
-  -- nothing is written yet
-  pub written-none : Written f base from from values before before
-  written-none = record { holds = λ i d a b. absurd (omega arith); keeps = λ k d non. refl }
-
   -- one more value is written
   pub written-more : (n p index : ℕ) (cells : List V) (v : V) → Ascending f n → to ≤ n → to ≤ length values → Among f base (length before) from to → length cells ≡ length before → from ≤ p → p < to → index ≡ f p → v ≡ getD values p v → Written f base from p values before cells → Written f base from (p + 1) values before (set cells (index - base) v)
   written-more n p index cells v up low long among same h l is read w = record {
@@ -50,18 +46,19 @@ module _ {V : Type 0} (f : ℕ → ℕ) (base from to : ℕ) (values before : Li
   pub written-all : (p : ℕ) (cells : List V) → p ≡ to → Written f base from p values before cells → Written f base from to values before cells
   written-all p cells e w = rw e at w
 
--- a chunk that is there has its number below the number of chunks, and so has a row
+-- a chunk that keeps the rules is one of the chunks
 pub chunk-there : (chunk offset rows : ℕ) → AllKept (rangeRules chunk offset rows) → chunk < chunkCount offset rows
 chunk-there chunk offset rows kept = elim (cases-lt chunk (chunkCount offset rows)) [ inl h ↦ h | inr h ↦ absurd (kept .1 .0 chunk (refl, h)) ]
 
-pub chunk-rows : (chunk offset rows : ℕ) → chunk < chunkCount offset rows → 0 < rows
+-- so there is a row
+chunk-rows : (chunk offset rows : ℕ) → chunk < chunkCount offset rows → 0 < rows
 chunk-rows chunk offset rows h =
     elim (cases-eq rows 0) [
       | inl e ↦ absurd (omega (arith, cond-true {A = ℕ} (eqb rows 0) 0 ((phase offset + rows + 1023) / 1024) (eq-eqb rows 0 e)))
       | inr other ↦ (elim (cases-lt 0 rows) [ inl l ↦ l | inr l ↦ absurd (other (omega arith)) ])
     ]
 
--- so its number is small
+-- and its number is small
 pub chunk-small : (chunk offset rows : ℕ) → chunk < chunkCount offset rows → chunk ≤ rows
 chunk-small chunk offset rows h = omega (arith, chunks-some offset rows (chunk-rows chunk offset rows h))
 

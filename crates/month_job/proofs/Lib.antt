@@ -1,0 +1,5 @@
+pub mod Encoding
+pub mod LineCount
+pub mod Adding
+pub mod Walks
+pub mod Chunked

@@ -1,0 +1,4 @@
+pub mod Cells
+pub mod Jobs
+pub mod Corrected
+pub mod Reports

@@ -1,0 +1,5 @@
+mod countdowns;
+mod masks;
+mod numbers;
+mod searches;
+mod texts;
