@@ -28,6 +28,7 @@ pub record Known (c : Column ℕ) (offset rows : ℕ) (stored entries : List ℕ
   pub table-is : TableIs (c .chunks) entries before
 
 module _ {c : Column ℕ} {o n : ℕ} {l es : List ℕ} {w : ℕ} (known : Known c o n l es w) where
+  -- its patches, its stored indices, and how many of them lie before a row
   count-is : patches c ≡ length l
   count-is = list-count (index c) (patches c) l (known .stored-are)
 
@@ -71,6 +72,7 @@ module _ {c : Column ℕ} {o n : ℕ} {l es : List ℕ} {w : ℕ} (known : Known
   known-past row h r a = a .past (omega (arith, known .rows-are)) ∙ ap NotFound count-is
 
   module _ {d : Column ℕ} {a b : ℕ} (to : NarrowedTo c d a b) where
+    -- how many patches lie before the rows that are kept
     dropped-are : to .dropped ≡ under l (o + a)
     dropped-are = to .dropped-is ∙ under-is a
 
@@ -78,15 +80,16 @@ module _ {c : Column ℕ} {o n : ℕ} {l es : List ℕ} {w : ℕ} (known : Known
     pub kept-count : patches d ≡ under l (o + b) - under l (o + a)
     kept-count = let low = dropped-are in let high = under-is b in let all = to .count in cc
 
-    kept-stored : listed (index d) (patches d) ≡ part l (under l (o + a)) (under l (o + b))
-    kept-stored =
-        listed-same (index d) (λ i. getD l (under l (o + a) + i) 0) (patches d) (under l (o + b) - under l (o + a)) kept-count
-        (λ i h.
+    kept-index : (i : ℕ) → i < under l (o + b) - under l (o + a) → index d i ≡ getD l (under l (o + a) + i) 0
+    kept-index i h =
+        let top = under-le (λ k. getD l k 0) (o + b) (length l) in
         to .indices i (omega (arith, kept-count))
         ∙ ap (λ x. index c (x + i)) dropped-are
-        ∙ index-is (under l (o + a) + i) (omega (arith, under-le (λ i. getD l i 0) (o + b) (length l))))
+        ∙ index-is (under l (o + a) + i) (omega arith)
 
+    -- where some patch remains, and the chunks kept have their entries
     module _ (some : under l (o + a) < under l (o + b)) (first : firstKept o a < endKept o b) (last : endKept o b ≤ length es) where
+      -- its chunk data
       kept-there : hasTable (d .chunks) ≡ true
       kept-there = to .some-table (omega (arith, kept-count)) ∙ known .table-is .there
 
@@ -112,7 +115,7 @@ module _ {c : Column ℕ} {o n : ℕ} {l es : List ℕ} {w : ℕ} (known : Known
       known-narrowed = record {
         offset-is = to .offset ∙ ap (λ x. x + a) (known .offset-is);
         rows-are = to .rows;
-        stored-are = kept-stored;
+        stored-are = listed-same (index d) (λ i. getD l (under l (o + a) + i) 0) (patches d) (under l (o + b) - under l (o + a)) kept-count kept-index;
         table-is = record {
           there = kept-there;
           entries-are = listed-same (entry (d .chunks)) (λ i. getD es (firstKept o a + i) 0) (entryCount (d .chunks)) (endKept o b - firstKept o a) (kept .count) kept-entry;
