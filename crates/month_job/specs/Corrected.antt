@@ -2,7 +2,7 @@
 use mathlib.Core.Bool.{cond}
 use mathlib.Core.List.{List}
 use mathlib.Core.Path.{_≡_}
-use Prim.Native.Nat.{ℕ, _+_, _<_, _≤_}
+use Prim.Native.Nat.{ℕ, _+_, _-_, _<_, _≤_}
 use lib.Dec.{ltb}
 use lib.IntN.{ℤ, pos}
 use lib.ListN.{length, getD}
@@ -10,6 +10,7 @@ use Rattle.std.specs.declared.option.Option.{Option}
 use Rattle.std.specs.declared.option.Option.the-variants.{Some, None}
 use Rattle.std.specs.Options.{valueOr}
 use Rattle.patches.specs.declared.column.Column.{Column}
+use Rattle.patches.specs.Chunks.{chunkCount, firstRow, endRow}
 use Rattle.patches.specs.Columns.{patchAt, rowAt}
 use Rattle.month_job.specs.declared.correct.Answer.{Answer}
 use Rattle.month_job.specs.declared.correct.Answer.the-variants.{NoSuchRow, NotCorrected, Corrected}
@@ -23,6 +24,12 @@ amountAfter column row before = valueOr (patchAt column row) before
 abbrev pub CorrectedFrom : Column ℤ → ℕ → List ℤ → List ℤ → Type 0
 CorrectedFrom column first old new =
     (k : ℕ) → k < length old → getD new k (pos 0) ≡ amountAfter column (first + k) (getD old k (pos 0))
+
+-- there is such a chunk, and it has n rows
+abbrev pub Suited : Column ℤ → ℕ → ℕ → Type 0
+Suited c chunk n =
+    (chunk < chunkCount (c .offset) (c .rows))
+    × (n ≡ endRow chunk (c .offset) (c .rows) - firstRow chunk (c .offset) (c .rows))
 
 -- new is old with each cell corrected
 abbrev pub CorrectedAll : Column ℤ → List ℤ → List ℤ → Type 0

@@ -5,10 +5,10 @@ ghost use Prim.Native.Nat.{ℕ, _+_, _^_, _<_, _≤_};
 ghost use lib.ListN.{length, getD};
 ghost use Rattle.std.specs.Of.Vec.{vec-len, vec-items};
 ghost use Rattle.std.specs.Results.{Cases as ByOk};
-ghost use Rattle.std.specs.Vec.{made};
+ghost use Rattle.std.specs.Vec.{made, refused};
 ghost use Rattle.patches.specs.Chunks.{chunkCount, firstRow, endRow};
 ghost use Rattle.patches.specs.Columns.{patches};
-ghost use Rattle.month_job.specs.Corrected.{CorrectedFrom, CorrectedAll, answer, IsCorrection};
+ghost use Rattle.month_job.specs.Corrected.{CorrectedFrom, CorrectedAll, Suited, answer, IsCorrection};
 ghost use Rattle.month_job.specs.declared.correct.CorrectError.the-variants.{CellCount, Memory};
 ghost use Rattle.month_job.specs.declared.correct.Correction.{Correction};
 use patches::chunks::chunk_range;
@@ -151,13 +151,16 @@ fn correct_rows(column: &Column<'_, i64>, first: u64, cells: &mut [i64])
     }
 }
 
-/// Corrects the cells of one chunk: by the chunk data where there are any, and else row by row.
+/// Corrects the cells of one chunk: by the chunk data where there are any, and else row by row. It refuses only where
+/// there is no such chunk, or not as many cells as the chunk has rows, and then writes nothing.
 pub fn correct_chunk(
     column: &Column<'_, i64>,
     chunk: u64,
     cells: &mut [i64],
 ) -> Result<(), CorrectError>
-    ensures { λ r. ⌜ made r (λ _. CorrectedFrom (now (column .entry)) (firstRow chunk (now (column .entry) .offset) (now (column .entry) .rows)) (now (cells .entry)) (now (cells .exit))) ⌝ }
+    ensures corrected { λ r. ⌜ made r (λ _. CorrectedFrom (now (column .entry)) (firstRow chunk (now (column .entry) .offset) (now (column .entry) .rows)) (now (cells .entry)) (now (cells .exit))) ⌝ }
+    ensures refuses { λ r. ⌜ refused r (λ _. Suited (now (column .entry)) chunk (length (now (cells .entry))) → ⊥) ⌝ }
+    ensures kept { λ r. ⌜ refused r (λ _. now (cells .exit) ≡ now (cells .entry)) ⌝ }
 {
     if column.has_chunk_data() {
         column.patch_chunk(chunk, cells)?;
@@ -169,10 +172,13 @@ pub fn correct_chunk(
     Ok(())
 }
 
-/// Corrects a whole history, chunk by chunk, and answers how many chunks it has.
+/// Corrects a whole history, chunk by chunk, and answers how many chunks it has. It refuses exactly where the history has
+/// not as many cells as the column has rows, and then writes nothing.
 pub fn correct_all(column: &Column<'_, i64>, cells: &mut [i64]) -> Result<u64, CorrectError>
     ensures count { λ r. ⌜ made r (λ chunks. (chunks ≡ chunkCount (now (column .entry) .offset) (now (column .entry) .rows)) × (length (now (cells .entry)) ≡ now (column .entry) .rows)) ⌝ }
     ensures cells { λ r. ⌜ made r (λ _. CorrectedAll (now (column .entry)) (now (cells .entry)) (now (cells .exit))) ⌝ }
+    ensures refuses { λ r. ⌜ refused r (λ e. (e ≡ CellCount (length (now (cells .entry))) (now (column .entry) .rows)) × (length (now (cells .entry)) ≡ now (column .entry) .rows → ⊥)) ⌝ }
+    ensures kept { λ r. ⌜ refused r (λ _. now (cells .exit) ≡ now (cells .entry)) ⌝ }
 {
     let rows = column.rows();
     check_count(cells, rows)?;

@@ -29,5 +29,5 @@ loop-chunk-again c =
     order
     in-range
     (c .correct-chunk .kept .cells)
-    (c .in-Continue-correct-chunk .ensures tt)
+    (c .in-Continue-correct-chunk .ensures tt .corrected)
     (c .loop-chunk .inv)
