@@ -1,7 +1,6 @@
 -- Numbers counted down, under the order in which larger numbers go first.
 use Prim.Native.Nat.{ℕ, _-_, _<_}
 use native.Mathlib.Omega.{arith}
-use lib.ListN.{length}
 use Rattle.search_sorted.specs.Order.{TotalOrder, NeverDescends}
 use Rattle.search_sorted.specs.Naturals.{natural, le-rank}
 use Rattle.search_sorted.specs.Packed.{listed}

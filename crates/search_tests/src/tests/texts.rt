@@ -28,8 +28,10 @@ fn sides_as_text(rt: LibcRuntime) -> Result<(), Fail> {
 
 #[test]
 fn what_an_answer_carries() -> Result<(), Fail> {
-    check_eq(SearchResult::Found(4).to_found(), Some(4))?;
-    check_eq(SearchResult::NotFound(4).to_found(), None)?;
-    check_eq(SearchResult::Found(4).to_index(), 4)?;
-    check_eq(SearchResult::NotFound(5).to_index(), 5)
+    check(
+        SearchResult::Found(4).to_found() == Some(4)
+            && SearchResult::NotFound(4).to_found() == None
+            && SearchResult::Found(4).to_index() == 4
+            && SearchResult::NotFound(5).to_index() == 5,
+    )
 }
