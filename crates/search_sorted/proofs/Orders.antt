@@ -74,10 +74,6 @@ module _ {K : Type 0} (order : TotalOrder K) (keys : List K) (needle : K) where
   pub passed-within : (test : Ordering → Bool) (i : ℕ) → passes test (compareAt order keys i needle) ≡ true → i < length keys
   passed-within test i h = ⊎-elim (λ lt. lt) (λ past. absurd (false≢true (sym (ap (passes test) (compare-past order keys i needle past)) ∙ h))) (cases-lt i (length keys))
 
-  pub side-within : (side : SearchSortedSide) (i : ℕ) → side-test order keys needle side i ≡ true → i < length keys
-  side-within Left i h = passed-within isLt i h
-  side-within Right i h = passed-within isLe i h
-
   -- a test of the keys that holds of each key before one of which it holds
   passed-before : (test : Ordering → Bool) → ((x y : K) → isLe (order .compare x y) ≡ true → test (order .compare y needle) ≡ true → test (order .compare x needle) ≡ true) → NeverDescends order keys → (i j : ℕ) → i ≤ j → passes test (compareAt order keys j needle) ≡ true → passes test (compareAt order keys i needle) ≡ true
   passed-before test back rising i j le h =

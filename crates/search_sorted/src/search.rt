@@ -95,29 +95,22 @@ pub fn search_sorted<S: IndexOrd>(
     }
 }
 
-// How many keys go before the needle on a side. The first test leaves as many places as a power of two, within the
-// sequence, and each other test tells one bit of the place. What the keys hold picks no branch in the loop, since a
-// bit is added whether it is 0 or 1.
+// How many keys go before the needle on a side. Each test takes half of the places that are left, rounded down, from
+// them, whatever it says. What the keys hold picks no branch in the loop, since the place is moved by the half or by 0.
 fn partition_place<S: IndexOrd>(sequence: &S, needle: &S::Key, side: SearchSortedSide) -> usize
     ensures { λ r. ⌜ SidePoint (S·IndexOrd .order) (S·IndexOrd .keys (now (sequence .entry))) (now (needle .entry)) side r ⌝ }
 {
-    let len = sequence.index_len();
-    if len == 0 {
+    let mut left = sequence.index_len();
+    if left == 0 {
         return 0;
     }
-    let mut bit = len.ilog2();
-    let first = (1usize << bit) - 1;
-    let mut place = if goes_before(sequence, first, needle, side) {
-        len - first
-    } else {
-        0
-    };
-    while bit > 0 {
-        bit -= 1;
-        let middle = place + ((1usize << bit) - 1);
-        place += (goes_before(sequence, middle, needle, side) as usize) << bit;
+    let mut place = 0;
+    while left > 1 {
+        let half = left / 2;
+        place += half * goes_before(sequence, place + half, needle, side) as usize;
+        left -= half;
     }
-    place
+    place + goes_before(sequence, place, needle, side) as usize
 }
 
 // Whether the key at a place goes before the needle on a side; none does past the end.
@@ -129,14 +122,11 @@ fn goes_before<S: IndexOrd>(
 ) -> bool
     ensures { λ r. ⌜ r ≡ side-test (S·IndexOrd .order) (S·IndexOrd .keys (now (sequence .entry))) (now (needle .entry)) side place ⌝ }
 {
-    let equal_too = match side {
-        SearchSortedSide::Left => false,
-        SearchSortedSide::Right => true,
-    };
     match sequence.index_cmp(place, needle) {
-        Some(Ordering::Less) => true,
-        Some(Ordering::Equal) => equal_too,
-        Some(Ordering::Greater) => false,
+        Some(order) => match side {
+            SearchSortedSide::Left => order.is_lt(),
+            SearchSortedSide::Right => order.is_le(),
+        },
         None => false,
     }
 }
