@@ -1,0 +1,8 @@
+mod accepted;
+mod cells;
+mod files;
+mod lookups;
+mod marks;
+mod narrows;
+mod ranges;
+mod refusals;
