@@ -1,6 +1,5 @@
 pub mod Orders
-pub mod Halving
-pub mod Steps
+pub mod Quarters
 pub mod Found
 pub mod Weights
 pub mod Places

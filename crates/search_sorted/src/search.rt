@@ -95,22 +95,27 @@ pub fn search_sorted<S: IndexOrd>(
     }
 }
 
-// How many keys go before the needle on a side. Each test takes half of the places that are left, rounded down, from
-// them, whatever it says. What the keys hold picks no branch in the loop, since the place is moved by the half or by 0.
+// How many keys go before the needle on a side. Three tests, at the quarters of the places that are left, tell by how
+// many quarters to go on. What the keys hold picks no branch, since the outcomes are added up; the number of turns
+// depends on the length only.
 fn partition_place<S: IndexOrd>(sequence: &S, needle: &S::Key, side: SearchSortedSide) -> usize
     ensures { λ r. ⌜ SidePoint (S·IndexOrd .order) (S·IndexOrd .keys (now (sequence .entry))) (now (needle .entry)) side r ⌝ }
 {
     let mut left = sequence.index_len();
-    if left == 0 {
-        return 0;
-    }
     let mut place = 0;
-    while left > 1 {
-        let half = left / 2;
-        place += half * goes_before(sequence, place + half, needle, side) as usize;
-        left -= half;
+    while left > 3 {
+        let quarter = left / 4;
+        let first = goes_before(sequence, place + quarter, needle, side);
+        let second = goes_before(sequence, place + 2 * quarter, needle, side);
+        let third = goes_before(sequence, place + 3 * quarter, needle, side);
+        place += quarter * (first as usize + second as usize + third as usize);
+        left -= 3 * quarter;
     }
-    place + goes_before(sequence, place, needle, side) as usize
+    let mut count = 0;
+    for k in 0..left {
+        count += goes_before(sequence, place + k, needle, side) as usize;
+    }
+    place + count
 }
 
 // Whether the key at a place goes before the needle on a side; none does past the end.
