@@ -22,7 +22,7 @@ impl Generator {
     }
 
     /// The next number, brought below a bound.
-    pub fn below(&mut self, bound: u64) -> u64
+    pub(crate) fn below(&mut self, bound: u64) -> u64
         requires { ⌜ 0 < bound ⌝ }
         ensures { λ r. ⌜ r < bound ⌝ }
     {

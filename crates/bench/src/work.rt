@@ -16,7 +16,7 @@ pub fn add_lookups(column: &Column<i64>, rows: &[u64], sum: i64) -> i64 {
 }
 
 /// Corrects a history, chunk by chunk, for a column whose offset is 0.
-pub fn patch_all(column: &Column<i64>, history: &mut [i64]) -> Result<(), Refusal>
+pub(crate) fn patch_all(column: &Column<i64>, history: &mut [i64]) -> Result<(), Refusal>
     requires { ⌜ length (now history) ≡ now column .rows ⌝ }
 {
     for chunk in 0..column.chunk_count() {
