@@ -1,3 +1,5 @@
+#![tactic(auto)]
+
 mod generator;
 mod inputs;
 mod times;

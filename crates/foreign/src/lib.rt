@@ -1,2 +1,4 @@
+#![tactic(auto)]
+
 pub mod every;
 pub mod mark;

@@ -1,3 +1,5 @@
+#![tactic(auto)]
+
 mod lane_count;
 pub mod lanes;
 pub mod transpose;

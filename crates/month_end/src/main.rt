@@ -1,4 +1,6 @@
 //! Corrects a price history by a month's corrections, as a job file says.
+#![tactic(auto)]
+
 mod files;
 mod steps;
 

@@ -1,4 +1,6 @@
 //! The work of a month's end: a job file, the cells of a price history, and the correction of the history.
+#![tactic(auto)]
+
 pub mod cells;
 pub mod correct;
 pub mod job;

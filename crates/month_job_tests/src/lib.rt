@@ -1,4 +1,6 @@
 //! Tests of `month_job`, in a crate of their own.
+#![tactic(auto)]
+
 #[cfg(test)]
 mod cells;
 #[cfg(test)]

@@ -1,3 +1,5 @@
+#![tactic(auto)]
+
 pub mod chunks;
 pub mod column;
 pub mod corrections;

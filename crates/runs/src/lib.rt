@@ -1,2 +1,4 @@
+#![tactic(auto)]
+
 pub mod attempts;
 pub mod run;

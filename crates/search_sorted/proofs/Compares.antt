@@ -1,9 +1,9 @@
 -- How listed numbers compare with a needle.
 use Rattle.std.proofs.Common.{◌≡◌, ℕ, zero, suc, ◌+◌, ◌<◌, ◌≤◌, map, Some, None, Ordering, sym, refl, ap, ◌∙◌, arith}
 use Rattle.std.specs.List.{range_with_len}
-use Rattle.std.specs.Ordering.{MatchOrdering, nat_cmp}
+use Rattle.std.specs.Ordering.{nat_cmp}
 use Rattle.search_sorted.specs.Order.{compare_at}
-use Rattle.search_sorted.specs.Naturals.{natural, rank_is}
+use Rattle.search_sorted.specs.Naturals.{natural}
 use Rattle.search_sorted.specs.Packed.{listed}
 
 compare_from : (f : ℕ → ℕ) (a n i x : ℕ) → i < n → compare_at natural (map f (range_with_len a n)) i x ≡ Some (nat_cmp (f (a + i)) x)
@@ -24,6 +24,6 @@ compare_listed f n i x h = let e : 0 + i ≡ i = omega arith in compare_from f 0
 pub past_listed : (f : ℕ → ℕ) (n i x : ℕ) → n ≤ i → compare_at natural (listed f n) i x ≡ None
 past_listed f n i x h = past_from f 0 n i x h
 
--- what ranks the number at a place and the needle is how they compare
-pub ranked_listed : (f : ℕ → ℕ) (n i x y : ℕ) (r : Ordering) → i < n → y ≡ f i → MatchOrdering r (y < x) (y ≡ x) (x < y) → Some r ≡ compare_at natural (listed f n) i x
-ranked_listed f n i x y r h e ranked = sym (compare_listed f n i x h ∙ ap Some (ap (λ k. nat_cmp k x) (sym e) ∙ rank_is y x r ranked))
+-- how the number at a place ranks beside the needle is how they compare
+pub ranked_listed : (f : ℕ → ℕ) (n i x y : ℕ) (r : Ordering) → i < n → y ≡ f i → r ≡ nat_cmp y x → Some r ≡ compare_at natural (listed f n) i x
+ranked_listed f n i x y r h e ranked = sym (compare_listed f n i x h ∙ ap Some (ap (λ k. nat_cmp k x) (sym e) ∙ sym ranked))

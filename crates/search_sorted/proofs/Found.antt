@@ -1,5 +1,5 @@
 -- Where keys equal the needle, by the partition points on the two sides.
-use Rattle.std.proofs.Common.{◌≡◌, ℕ, ◌-◌, ◌<◌, true, false, List, refl, ap, ⊎_elim, arith}
+use Rattle.std.proofs.Common.{◌≡◌, ℕ, ◌-◌, ◌<◌, true, List, refl, ap, ⊎_elim, arith}
 use Rattle.std.specs.Ordering.{is_lt, is_le, is_some_and}
 use Rattle.std.proofs.lemmas.Bool.{both_ways, cases_lt, false≢true}
 use Rattle.search_sorted.specs.declared.search.SearchResult.{SearchResult}

@@ -1,3 +1,5 @@
+#![tactic(auto)]
+
 mod keys;
 pub mod order;
 pub mod packed;

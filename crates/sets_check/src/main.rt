@@ -1,5 +1,6 @@
 //! Lanes, windows and correction runs over several patch sets, printed. What is expected is written by a model of the
 //! rules, tools/sets_check.py.
+#![tactic(auto)]
 
 mod agreement;
 mod cells;

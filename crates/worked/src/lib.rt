@@ -1,3 +1,5 @@
+#![tactic(auto)]
+
 ghost use Rattle.worked.specs.Cases.{WorkedCases};
 
 /// What the promises of the calls come to at worked cases: the contract is their proof. Answers how many there are.

@@ -14,7 +14,7 @@ loop-cell-preserved c =
     let same : get_or c.loop-cell.cells i (pos 0) ≡ old = c.loop-cell.invariant.2 i (omega arith) in
     let kept : SFits w64 (get_or c.loop-cell.cells i (pos 0)) = search rules in
     let plain = to_z-of_z w64 (get_or c.loop-cell.cells i (pos 0)) kept in
-    let result_fits : SFits w64 c.unwrap-or.result = sfits_of c.unwrap-or.type-inv in
+    let result_fits : SFits w64 c.unwrap-or.result = sfits_of c.unwrap-or.type_inv in
     let written = to_z-of_z w64 c.unwrap-or.result result_fits in
     let here : to_z w64 (of_z w64 c.unwrap-or.result) ≡ amount_after c.args.column.now (c.args.first + i) old = cc in (
       omega arith,

@@ -4,18 +4,18 @@ use Rattle.search_sorted.specs.RowMaskLaws.{below_le}
 use Rattle.search_sorted.proofs.RowMaskBits.{below_byte}
 use Rattle.search_sorted.proofs.row_mask.count_in_bytes.Goals as goal
 
-pub overflow-cast-count : goal.overflow-cast-count
-overflow-cast-count c = omega (arith, ones-le 8 c.byte-at.result c.byte-at.type-inv)
+pub overflow_cast-count : goal.overflow_cast-count
+overflow_cast-count c = omega (arith, ones-le 8 c.byte_at.result c.byte_at.type_inv)
 
-pub overflow-add-count : goal.overflow-add-count
-overflow-add-count c =
+pub overflow_add-count : goal.overflow_add-count
+overflow_add-count c =
     let bytes = c.args.bytes.now in
     let i = c.loop-i.i in
-    let b = c.byte-at in
-    omega (arith, below_byte bytes i b.result b.ensures b.type-inv, below_le bytes (8 * (i + 1)))
+    let b = c.byte_at in
+    omega (arith, below_byte bytes i b.result b.ensures b.type_inv, below_le bytes (8 * (i + 1)))
 
 pub loop-i-preserved : goal.loop-i-preserved
 loop-i-preserved c =
     let bytes = c.args.bytes.now in
-    let b = c.byte-at in
-    omega (arith, below_byte bytes c.loop-i.i b.result b.ensures b.type-inv)
+    let b = c.byte_at in
+    omega (arith, below_byte bytes c.loop-i.i b.result b.ensures b.type_inv)

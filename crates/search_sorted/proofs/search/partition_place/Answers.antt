@@ -13,13 +13,13 @@ loop-left-preserved g c = (
       c.loop-left.place
       c.loop-left.left
       (c.loop-left.left / 4)
-      c.goes-before-first.result
-      c.goes-before-second.result
-      c.goes-before-third.result
+      c.goes_before-first.result
+      c.goes_before-second.result
+      c.goes_before-third.result
       (omega arith)
-      c.goes-before-first.ensures
-      c.goes-before-second.ensures
-      c.goes-before-third.ensures
+      c.goes_before-first.ensures
+      c.goes_before-second.ensures
+      c.goes_before-third.ensures
       c.loop-left.invariant.1,
 )
 
@@ -31,8 +31,8 @@ loop-k-preserved g c =
     c.loop-left.place
     c.loop-k.k
     c.loop-k.count
-    c.goes-before.result
-    c.goes-before.ensures
+    c.goes_before.result
+    c.goes_before.ensures
     c.loop-k.invariant
 
 pub returns : goal.returns

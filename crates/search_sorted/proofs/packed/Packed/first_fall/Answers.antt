@@ -10,13 +10,13 @@ abbrev fallen : List ℕ → Option ℕ → ℕ → Type 0
 fallen bytes r size = FirstFall (number_at bytes size) (length bytes / size) r
 
 pub returns-in-One : goal.returns-in-One
-returns-in-One c = at_width (fallen c.args.self.now.bytes.now c.fall-in.result) _ One c.in-One.is c.fall-in.ensures
+returns-in-One c = at_width (fallen c.args.self.now.bytes.now c.fall_in.result) _ One c.in-One.is c.fall_in.ensures
 
 pub returns-in-Two : goal.returns-in-Two
-returns-in-Two c = at_width (fallen c.args.self.now.bytes.now c.fall-in-in-Two.result) _ Two c.in-Two.is c.fall-in-in-Two.ensures
+returns-in-Two c = at_width (fallen c.args.self.now.bytes.now c.fall_in-in-Two.result) _ Two c.in-Two.is c.fall_in-in-Two.ensures
 
 pub returns-in-Four : goal.returns-in-Four
-returns-in-Four c = at_width (fallen c.args.self.now.bytes.now c.fall-in-in-Four.result) _ Four c.in-Four.is c.fall-in-in-Four.ensures
+returns-in-Four c = at_width (fallen c.args.self.now.bytes.now c.fall_in-in-Four.result) _ Four c.in-Four.is c.fall_in-in-Four.ensures
 
 pub returns-in-Eight : goal.returns-in-Eight
-returns-in-Eight c = at_width (fallen c.args.self.now.bytes.now c.fall-in-in-Eight.result) _ Eight c.in-Eight.is c.fall-in-in-Eight.ensures
+returns-in-Eight c = at_width (fallen c.args.self.now.bytes.now c.fall_in-in-Eight.result) _ Eight c.in-Eight.is c.fall_in-in-Eight.ensures

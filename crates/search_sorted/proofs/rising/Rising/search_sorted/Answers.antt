@@ -20,62 +20,62 @@ answers bytes x side r size = Answers natural (listed (number_at bytes size) (le
 abbrev parts : List ℕ → ℕ → SearchSortedSide → SearchResult → ℕ → Type 0
 parts bytes x side r size = SidePoint natural (listed (number_at bytes size) (length bytes / size)) x side (place_of r)
 
-pub invariant-of-search-sorted : goal.invariant-of-search-sorted
-invariant-of-search-sorted c =
+pub invariant_of-search_sorted : goal.invariant_of-search_sorted
+invariant_of-search_sorted c =
     let s = c.args.self.now in
-    (omega arith, (omega arith, (from_width (rises s.numbers.bytes.now) _ One c.in-One.is s.up, tt)))
+    record { some = omega arith; most = omega arith; up = from_width (rises s.numbers.bytes.now) _ One c.in-One.is s.up }
 
 pub returns-in-One : goal.returns-in-One
 returns-in-One c =
     let s = c.args.self.now in
     let bytes = s.numbers.bytes.now in
-    let r = c.search-sorted.result in
+    let r = c.search_sorted.result in
     record {
-      answer = at_width (answers bytes c.args.needle c.args.side r) _ One c.in-One.is c.search-sorted.ensures.answer;
-      partition = at_width (parts bytes c.args.needle c.args.side r) _ One c.in-One.is c.search-sorted.ensures.partition;
+      answer = at_width (answers bytes c.args.needle c.args.side r) _ One c.in-One.is c.search_sorted.ensures.answer;
+      partition = at_width (parts bytes c.args.needle c.args.side r) _ One c.in-One.is c.search_sorted.ensures.partition;
     }
 
-pub invariant-of-search-sorted-in-Two : goal.invariant-of-search-sorted-in-Two
-invariant-of-search-sorted-in-Two c =
+pub invariant_of-search_sorted-in-Two : goal.invariant_of-search_sorted-in-Two
+invariant_of-search_sorted-in-Two c =
     let s = c.args.self.now in
-    (omega arith, (omega arith, (from_width (rises s.numbers.bytes.now) _ Two c.in-Two.is s.up, tt)))
+    record { some = omega arith; most = omega arith; up = from_width (rises s.numbers.bytes.now) _ Two c.in-Two.is s.up }
 
 pub returns-in-Two : goal.returns-in-Two
 returns-in-Two c =
     let s = c.args.self.now in
     let bytes = s.numbers.bytes.now in
-    let r = c.search-sorted-in-Two.result in
+    let r = c.search_sorted-in-Two.result in
     record {
-      answer = at_width (answers bytes c.args.needle c.args.side r) _ Two c.in-Two.is c.search-sorted-in-Two.ensures.answer;
-      partition = at_width (parts bytes c.args.needle c.args.side r) _ Two c.in-Two.is c.search-sorted-in-Two.ensures.partition;
+      answer = at_width (answers bytes c.args.needle c.args.side r) _ Two c.in-Two.is c.search_sorted-in-Two.ensures.answer;
+      partition = at_width (parts bytes c.args.needle c.args.side r) _ Two c.in-Two.is c.search_sorted-in-Two.ensures.partition;
     }
 
-pub invariant-of-search-sorted-in-Four : goal.invariant-of-search-sorted-in-Four
-invariant-of-search-sorted-in-Four c =
+pub invariant_of-search_sorted-in-Four : goal.invariant_of-search_sorted-in-Four
+invariant_of-search_sorted-in-Four c =
     let s = c.args.self.now in
-    (omega arith, (omega arith, (from_width (rises s.numbers.bytes.now) _ Four c.in-Four.is s.up, tt)))
+    record { some = omega arith; most = omega arith; up = from_width (rises s.numbers.bytes.now) _ Four c.in-Four.is s.up }
 
 pub returns-in-Four : goal.returns-in-Four
 returns-in-Four c =
     let s = c.args.self.now in
     let bytes = s.numbers.bytes.now in
-    let r = c.search-sorted-in-Four.result in
+    let r = c.search_sorted-in-Four.result in
     record {
-      answer = at_width (answers bytes c.args.needle c.args.side r) _ Four c.in-Four.is c.search-sorted-in-Four.ensures.answer;
-      partition = at_width (parts bytes c.args.needle c.args.side r) _ Four c.in-Four.is c.search-sorted-in-Four.ensures.partition;
+      answer = at_width (answers bytes c.args.needle c.args.side r) _ Four c.in-Four.is c.search_sorted-in-Four.ensures.answer;
+      partition = at_width (parts bytes c.args.needle c.args.side r) _ Four c.in-Four.is c.search_sorted-in-Four.ensures.partition;
     }
 
-pub invariant-of-search-sorted-in-Eight : goal.invariant-of-search-sorted-in-Eight
-invariant-of-search-sorted-in-Eight c =
+pub invariant_of-search_sorted-in-Eight : goal.invariant_of-search_sorted-in-Eight
+invariant_of-search_sorted-in-Eight c =
     let s = c.args.self.now in
-    (omega arith, (omega arith, (from_width (rises s.numbers.bytes.now) _ Eight c.in-Eight.is s.up, tt)))
+    record { some = omega arith; most = omega arith; up = from_width (rises s.numbers.bytes.now) _ Eight c.in-Eight.is s.up }
 
 pub returns-in-Eight : goal.returns-in-Eight
 returns-in-Eight c =
     let s = c.args.self.now in
     let bytes = s.numbers.bytes.now in
-    let r = c.search-sorted-in-Eight.result in
+    let r = c.search_sorted-in-Eight.result in
     record {
-      answer = at_width (answers bytes c.args.needle c.args.side r) _ Eight c.in-Eight.is c.search-sorted-in-Eight.ensures.answer;
-      partition = at_width (parts bytes c.args.needle c.args.side r) _ Eight c.in-Eight.is c.search-sorted-in-Eight.ensures.partition;
+      answer = at_width (answers bytes c.args.needle c.args.side r) _ Eight c.in-Eight.is c.search_sorted-in-Eight.ensures.answer;
+      partition = at_width (parts bytes c.args.needle c.args.side r) _ Eight c.in-Eight.is c.search_sorted-in-Eight.ensures.partition;
     }

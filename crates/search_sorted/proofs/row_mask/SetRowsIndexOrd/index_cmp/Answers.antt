@@ -4,12 +4,12 @@ use Rattle.search_sorted.proofs.row_mask.SetRowsIndexOrd.index_cmp.Goals as goal
 use Rattle.search_sorted.proofs.row_mask.SetRowsIndexOrd.index_cmp.Goals.{else-place-before-2-via-then-place-before-2+else-contains}
 use Rattle.search_sorted.proofs.row_mask.SetRowsIndexOrd.index_cmp.Goals.{else-place-before-2-via-else-place-before-2}
 
-pub returns-then-place-true-count : goal.returns-then-place-true-count
-returns-then-place-true-count c =
+pub returns-then-place-true_count : goal.returns-then-place-true_count
+returns-then-place-true_count c =
     let mask = c.args.self.now.mask in
     let bytes = mask.bytes.now in
     let needle = c.args.needle.now in
-    let total = c.true-count in
+    let total = c.true_count in
     sym (row_past bytes mask.rows c.args.place needle total.result total.ensures (omega arith))
 
 pub returns-then-place-before : goal.returns-then-place-before
@@ -17,7 +17,7 @@ returns-then-place-before c =
     let mask = c.args.self.now.mask in
     let bytes = mask.bytes.now in
     let needle = c.args.needle.now in
-    let total = c.true-count in
+    let total = c.true_count in
     let rank = c.rank-before in
     sym (row-less bytes mask.rows c.args.place needle total.result total.ensures
     (omega arith) rank.result rank.ensures (omega arith))
@@ -27,7 +27,7 @@ returns-then-contains c =
     let mask = c.args.self.now.mask in
     let bytes = mask.bytes.now in
     let needle = c.args.needle.now in
-    let total = c.true-count in
+    let total = c.true_count in
     let rank = c.rank-before in
     let has = c.contains in
     sym (row-equal bytes mask.rows c.args.place needle total.result total.ensures
@@ -39,7 +39,7 @@ returns-else-place-before-2 c =
     let mask = c.args.self.now.mask in
     let bytes = mask.bytes.now in
     let needle = c.args.needle.now in
-    let total = c.true-count in
+    let total = c.true_count in
     let rank = c.rank-before in
     elim c.else-place-before-2.branch [
       | else-place-before-2-via-then-place-before-2+else-contains w ↦
