@@ -12,9 +12,7 @@ import sys
 
 ROOT = os.path.join(os.path.dirname(os.path.abspath(__file__)), "..", "crates")
 NAME = r"[a-z][A-Za-z0-9_'-]*"
-TOP = re.compile(rf"^( {{2}})?(?:unfoldable |abbrev )?(?:pub )?(?:unfoldable |abbrev )?({NAME}) :(?!=)")
-FIELD = re.compile(rf"^  (?:pub )?({NAME}) :(?!=)")
-RECORD = re.compile(r"^(?:pub )?record ")
+TOP = re.compile(rf"^ *(?:unfoldable |abbrev )?(?:pub )?(?:unfoldable |abbrev )?({NAME}) :(?!=)")
 ANSWER = re.compile(rf"^(?:abbrev )?(?:pub )?({NAME}) : goal\.")
 KEPT_TEXT = re.compile(r'"[^"\n]*"|--[^\n]*$|//[^\n]*$', re.M)
 
@@ -39,8 +37,8 @@ def defined(text):
     names = set()
     for line in text.split("\n"):
         m = TOP.match(line)
-        if m and m.group(2) not in answers:
-            names.add(m.group(2))
+        if m and m.group(1) not in answers:
+            names.add(m.group(1))
     return names
 
 
@@ -75,6 +73,9 @@ def main():
     if wrong:
         print("\n".join(wrong))
         sys.exit(1)
+    if not new:
+        print("no name is left to turn")
+        return
     pattern = re.compile(
         r"(?<![A-Za-z0-9_'-])(" + "|".join(sorted(map(re.escape, new), key=len, reverse=True)) + r")(?![A-Za-z0-9_'-])"
     )
@@ -89,11 +90,7 @@ def main():
         return "".join(parts)
 
     for path, text in texts.items():
-        if path.endswith(".rt"):
-            # in source only what clauses, ghost members and imports say
-            text = turned(text)
-        else:
-            text = turned(text)
+        text = turned(text)
         if text != texts[path]:
             with open(path, "w") as f:
                 f.write(text)

@@ -15,7 +15,7 @@ use Rattle.lanes.specs.LaneMeaning.{patch_in, lane_meaning, begin_of_chunk, IsAt
 use Rattle.lanes.proofs.LaneCounts.{lanes_pos, chunks_are}
 use Rattle.lanes.proofs.LaneOffsets.{begin_first, begin_last, begin_mono, begin_top}
 use Rattle.lanes.proofs.LaneTests.{Distinct, under_miss, under_hit, under_none, under_all, one_is, seek_first}
-use Rattle.lanes.proofs.LaneRows.{Table, lane_within, chunk_within, chunk-low, chunk-once, lane-length, entry-patched, row-unpatched}
+use Rattle.lanes.proofs.LaneRows.{Table, lane_within, chunk_within, chunk_low, chunk_once, lane_length, entry_patched, row_unpatched}
 
 -- the tables of lanes are sound
 pub table_of : {V : Type 0} (l : Lanes V) → Table l.offsets.now l.entries.now l.rows l.lanes
@@ -46,7 +46,7 @@ module _ {V : Type 0} (l : Lanes V) where
       let read : get_or (take n (drop b l.values.now)) (j - b) v ≡ get_or l.values.now j v = get_or-take n (drop b l.values.now) (j - b) v (omega (arith, found.0)) ∙ get_or-drop b l.values.now (j - b) v ∙ ap (λ k. get_or l.values.now k v) at in
       sym (cond-true (ltb r l.rows) (in_lane l.offsets.now l.entries.now l.values.now g (r % 1024)) None (lt-ltb r l.rows h)
       ∙ seek_first (λ k. get_or l.entries.now k 0) (r % 1024) b (j - b) (take n (drop b l.values.now)) v
-      (omega (arith, lane-length l.offsets.now l.entries.now l.rows l.lanes (table_of l) l.values.now l.value_count g (lane_there r h), found.0))
+      (omega (arith, lane_length l.offsets.now l.entries.now l.rows l.lanes (table_of l) l.values.now l.value_count g (lane_there r h), found.0))
       (ap (λ k. get_or l.entries.now k 0) at ∙ found.0.2)
       (λ k a q e. found.1 k (omega arith) (a, omega (arith, found.0), e))
       (is ∙ sym read))
@@ -57,7 +57,7 @@ module _ {V : Type 0} (l : Lanes V) where
       let g : ℕ = lane_of l.lanes r in
       let b : ℕ = begin_of l.offsets.now l.entries.now g in
       sym (cond-true (ltb r l.rows) (in_lane l.offsets.now l.entries.now l.values.now g (r % 1024)) None (lt-ltb r l.rows h)
-      ∙ seek_none_from (λ k. get_or l.entries.now k 0) (r % 1024) b _ (λ k a q e. non k (a, omega (arith, lane-length l.offsets.now l.entries.now l.rows l.lanes (table_of l) l.values.now l.value_count g (lane_there r h)), e)))
+      ∙ seek_none_from (λ k. get_or l.entries.now k 0) (r % 1024) b _ (λ k a q e. non k (a, omega (arith, lane_length l.offsets.now l.entries.now l.rows l.lanes (table_of l) l.values.now l.value_count g (lane_there r h)), e)))
 
   pub past_patch : (r : ℕ) → l.rows ≤ r → None ≡ patch_in l r
   past_patch r h = sym ((lane_meaning l).past r h)
@@ -77,19 +77,19 @@ module _ {V : Type 0} (l : Lanes V) where
 
   -- the row of a chunk's entry has a patch
   pub place_patched : (c j : ℕ) → c < count_of_chunks 0 l.rows → begin_of_chunk l c ≤ j → j < begin_of_chunk l (c + 1) → is_some (patch_in l (1024 * c + get_or l.entries.now j 0)) ≡ true
-  place_patched = entry-patched l.offsets.now l.entries.now l.rows l.lanes (table_of l) l.values.now l.value_count
+  place_patched = entry_patched l.offsets.now l.entries.now l.rows l.lanes (table_of l) l.values.now l.value_count
 
   -- a row of a chunk has none where no entry of the chunk is the row's
   pub place_unpatched : (c x : ℕ) → x < 1024 → ((j : ℕ) → begin_of_chunk l c ≤ j → j < begin_of_chunk l (c + 1) → get_or l.entries.now j 0 ≡ x → ⊥) → patch_in l (1024 * c + x) ≡ None
-  place_unpatched = row-unpatched l.offsets.now l.entries.now l.rows l.lanes (table_of l) l.values.now l.value_count
+  place_unpatched = row_unpatched l.offsets.now l.entries.now l.rows l.lanes (table_of l) l.values.now l.value_count
 
   pub place_low : (c j : ℕ) → c < count_of_chunks 0 l.rows → begin_of_chunk l c ≤ j → j < begin_of_chunk l (c + 1) → get_or l.entries.now j 0 < 1024
-  place_low c j h = chunk-low l.offsets.now l.entries.now l.rows l.lanes (table_of l) c h j
+  place_low c j h = chunk_low l.offsets.now l.entries.now l.rows l.lanes (table_of l) c h j
 
   -- no two entries of a chunk are equal, and all are below 1024
   entries_distinct : (c : ℕ) → c < count_of_chunks 0 l.rows → Distinct (entry_after l.entries.now (begin_of_chunk l c)) (begin_of_chunk l (c + 1) - begin_of_chunk l c)
   entries_distinct c h i j lt le e =
-      chunk-once l.offsets.now l.entries.now l.rows l.lanes (table_of l) c h (begin_of_chunk l c + i) (begin_of_chunk l c + j) (omega arith) (omega arith) (omega arith) e
+      chunk_once l.offsets.now l.entries.now l.rows l.lanes (table_of l) c h (begin_of_chunk l c + i) (begin_of_chunk l c + j) (omega arith) (omega arith) (omega arith) e
 
   -- the patched rows of a chunk below a place in it are as many as the chunk's entries below that
   pub count_in : (c : ℕ) → c < count_of_chunks 0 l.rows → (m : ℕ) → m ≤ 1024 → patches_below (patch_in l) (1024 * c + m) ≡ patches_below (patch_in l) (1024 * c) + count_under (entry_after l.entries.now (begin_of_chunk l c)) (begin_of_chunk l (c + 1) - begin_of_chunk l c) m
@@ -177,11 +177,11 @@ module _ {V : Type 0} (l : Lanes V) where
 
     -- the next is in the first later chunk that has an entry
     module _ (place d : ℕ) (is : place ≡ begin_of_chunk l (r / 1024 + 1)) (first : r / 1024 + 1 ≤ d) (chunk : d < count_of_chunks 0 l.rows) (low : begin_of_chunk l d ≤ place) (high : place < begin_of_chunk l (d + 1)) where
-      pub next-later : (q : Option ℕ) → NextUnder (patch_in l) (1024 * d + 0) (1024 * (d + 1)) q → Next (patch_in l) r q
-      next-later None non =
+      pub next_later : (q : Option ℕ) → NextUnder (patch_in l) (1024 * d + 0) (1024 * (d + 1)) q → Next (patch_in l) r q
+      next_later None non =
           let at = place_patched d place chunk low high in
           absurd (false≢true (sym (ap is_some (non (1024 * d + get_or l.entries.now place 0) (omega arith) (omega (arith, place_low d place chunk low high)))) ∙ at))
-      next-later (Some q) w = (
+      next_later (Some q) w = (
         omega (arith, w.0),
         w.1,
         (λ k a b.

@@ -65,12 +65,12 @@ module _ (offsets entries : List ℕ) (right : RightOffsets offsets entries) whe
 
   module _ (rows lanes lane : ℕ) (there : lane + 1 < length offsets) where
     -- an entry that is wrong in its lane is wrong
-    pub wrong-from : (j : ℕ) → WrongIn offsets entries rows lanes lane j → WrongEntry offsets entries rows lanes j
-    wrong-from j w = (lane, (there, w.0, w.1), w.2)
+    pub wrong_from : (j : ℕ) → WrongIn offsets entries rows lanes lane j → WrongEntry offsets entries rows lanes j
+    wrong_from j w = (lane, (there, w.0, w.1), w.2)
 
     -- an entry before a lane's end is not wrong, where none before the lane is wrong and it is not wrong in the lane
-    pub right-before : (j : ℕ) → j < begin_of offsets entries (lane + 1) → (j < begin_of offsets entries lane → WrongEntry offsets entries rows lanes j → ⊥) → (WrongIn offsets entries rows lanes lane j → ⊥) → WrongEntry offsets entries rows lanes j → ⊥
-    right-before j h before here w =
+    pub right_before : (j : ℕ) → j < begin_of offsets entries (lane + 1) → (j < begin_of offsets entries lane → WrongEntry offsets entries rows lanes j → ⊥) → (WrongIn offsets entries rows lanes lane j → ⊥) → WrongEntry offsets entries rows lanes j → ⊥
+    right_before j h before here w =
         elim (cases_lt j (begin_of offsets entries lane)) [
           | inl l ↦ before l w
           | inr l ↦

@@ -10,7 +10,7 @@ use Rattle.lanes.specs.LaneRules.{lane_total, row_in, LiesIn}
 use Rattle.lanes.specs.LaneSets.{in_lane, lane_patch, SoundTables, TablesOf}
 use Rattle.lanes.proofs.LaneOffsets.{begin_first, begin_last, begin_step}
 use Rattle.lanes.proofs.LaneTests.{seek_first}
-use Rattle.lanes.proofs.LaneRows.{Table, entry-low, entry_lane, entry_row, lane_rises, lane_of_place, lane-length, patch-at}
+use Rattle.lanes.proofs.LaneRows.{Table, entry_low, entry_lane, entry_row, lane_rises, lane_of_place, lane_length, patch_of_place}
 
 -- rising numbers, each of which stands among others that rise
 module _ (f g : ℕ → ℕ) (n k : ℕ) (up : Ascending f n) (rise : Ascending g k) (there : (i : ℕ) → i < n → (j : ℕ) × (j < k) × (g j ≡ f i)) where
@@ -83,8 +83,8 @@ module _ {V : Type 0} (rows lanes : ℕ) (o e : List ℕ) (v : List V) (s : Soun
 
   -- a lane
   module _ (g : ℕ) (within : g + 1 < length o) where
-    size-long : length (values_in o v g) ≡ size_of o g
-    size-long = lane-length o e rows lanes table v s.values_length g within
+    size_long : length (values_in o v g) ≡ size_of o g
+    size_long = lane_length o e rows lanes table v s.values_length g within
 
     lies : (i : ℕ) → i < size_of o g → LiesIn o e g (get_or o g 0 + i)
     lies i h = (within, omega arith, omega arith)
@@ -95,7 +95,7 @@ module _ {V : Type 0} (rows lanes : ℕ) (o e : List ℕ) (v : List V) (s : Soun
     -- an entry's value is what is found in the lane
     found : (i : ℕ) → i < size_of o g → (u : V) → u ≡ get_or (values_in o v g) i u → in_lane o e v g (entry_in o e g i) ≡ Some u
     found i h u is =
-        seek_first (λ j. get_or e j 0) (entry_in o e g i) (get_or o g 0) i (values_in o v g) u (omega (arith, size-long)) refl
+        seek_first (λ j. get_or e j 0) (entry_in o e g i) (get_or o g 0) i (values_in o v g) u (omega (arith, size_long)) refl
         (λ k a b q. omega (arith, q, lane_rises o e rows lanes table g k (get_or o g 0 + i) (within, a, omega arith) (lies i h) b))
         is
 
@@ -103,14 +103,14 @@ module _ {V : Type 0} (rows lanes : ℕ) (o e : List ℕ) (v : List V) (s : Soun
     back : (x : ℕ) (u : V) → in_lane o e v g x ≡ Some u → (j : ℕ) × (j < size_of o g) × (entry_in o e g j ≡ x) × (u ≡ get_or (values_in o v g) j u)
     back x u q =
         let w = seek_back (λ j. get_or e j 0) x (get_or o g 0) (values_in o v g) u q in
-        (w.0, omega (arith, w.1, size-long), w.2, w.3)
+        (w.0, omega (arith, w.1, size_long), w.2, w.3)
 
     -- the patch of a row of the lane
     patch_is : (x : ℕ) → x < 1024 → x % lanes ≡ g % lanes → row_in lanes g x < rows → lane_patch rows lanes o e v (row_in lanes g x) ≡ in_lane o e v g x
     patch_is x low same row =
         let whole : g / lanes * lanes + g % lanes ≡ g = omega (arith, mod-add-div' g lanes) in
         let k : g / lanes * lanes + x % lanes ≡ g = ap (λ d. g / lanes * lanes + d) same ∙ whole in
-        patch-at o e rows lanes table v s.values_length (g / lanes) x low row ∙ ap (λ n. in_lane o e v n x) k
+        patch_of_place o e rows lanes table v s.values_length (g / lanes) x low row ∙ ap (λ n. in_lane o e v n x) k
 
 -- the tables t of an assignment, and others t'
 module _ {V : Type 0} (m : Assignment V) (lanes : ℕ) (o e o' e' : List ℕ) (v v' : List V) (t : TablesOf m lanes o e v) (t' : TablesOf m lanes o' e' v') (g : ℕ) (within : g + 1 < length o) (within' : g + 1 < length o') where
@@ -120,7 +120,7 @@ module _ {V : Type 0} (m : Assignment V) (lanes : ℕ) (o e o' e' : List ℕ) (v
       let x : ℕ = entry_in o e g i in
       let at = lies m.rows lanes o e v t.sound g within i h in
       let tab = table m.rows lanes o e v t.sound in
-      let low : x < 1024 = entry-low o e m.rows lanes tab g (get_or o g 0 + i) at in
+      let low : x < 1024 = entry_low o e m.rows lanes tab g (get_or o g 0 + i) at in
       let same : x % lanes ≡ g % lanes = entry_lane o e m.rows lanes tab g (get_or o g 0 + i) at in
       let row : row_in lanes g x < m.rows = entry_row o e m.rows lanes tab g (get_or o g 0 + i) at in
       back m.rows lanes o' e' v' t'.sound g within' x u
@@ -132,7 +132,7 @@ module _ {V : Type 0} (m : Assignment V) (lanes : ℕ) (o e o' e' : List ℕ) (v
 
   there : (i : ℕ) → i < size_of o g → (j : ℕ) × (j < size_of o' g) × (entry_in o' e' g j ≡ entry_in o e g i)
   there i h =
-      let a = value_at (values_in o v g) i (omega (arith, size-long m.rows lanes o e v t.sound g within)) in
+      let a = value_at (values_in o v g) i (omega (arith, size_long m.rows lanes o e v t.sound g within)) in
       let w = carried i h a.0 a.1 in
       (w.0, w.1, w.2)
 
@@ -155,8 +155,8 @@ module _ {V : Type 0} (m : Assignment V) (lanes : ℕ) (o e o' e' : List ℕ) (v
     size_same = omega (arith, no_more m lanes o e o' e' v v' t t' g within within', no_more m lanes o' e' o e v' v t' t g within' within)
 
     -- an entry of a lane and its value stand at the same place in both
-    entry-same : (i : ℕ) → i < size_of o g → (u : V) → u ≡ get_or (values_in o v g) i u → (entry_in o e g i ≡ entry_in o' e' g i) × (u ≡ get_or (values_in o' v' g) i u)
-    entry-same i h u is =
+    entry_same : (i : ℕ) → i < size_of o g → (u : V) → u ≡ get_or (values_in o v g) i u → (entry_in o e g i ≡ entry_in o' e' g i) × (u ≡ get_or (values_in o' v' g) i u)
+    entry_same i h u is =
         let w = carried m lanes o e o' e' v v' t t' g within within' i h u is in
         let left : i ≤ w.0 = no_earlier m lanes o e o' e' v v' t t' g within within' i w.0 h w.1 w.2 in
         let right : w.0 ≤ i = no_earlier m lanes o' e' o e v' v t' t g within' within w.0 i w.1 h (sym w.2) in
@@ -197,11 +197,11 @@ module _ {V : Type 0} (m : Assignment V) (lanes : ℕ) (o e o' e' : List ℕ) (v
       let small : i < size_of o g = omega (arith, lane.1, lane.2) in
       let here : get_or o g 0 + i ≡ j = omega (arith, lane.1) in
       let here' : get_or o' g 0 + i ≡ j = omega (arith, here, begin_same g (omega arith)) in
-      let full : length (values_in o v g) ≡ size_of o g = size-long m.rows lanes o e v t.sound g within in
-      let full' : length (values_in o' v' g) ≡ size_of o' g = size-long m.rows lanes o' e' v' t'.sound g (omega (arith, long_same)) in
+      let full : length (values_in o v g) ≡ size_of o g = size_long m.rows lanes o e v t.sound g within in
+      let full' : length (values_in o' v' g) ≡ size_of o' g = size_long m.rows lanes o' e' v' t'.sound g (omega (arith, long_same)) in
       let small' : i < size_of o' g = omega (arith, size_same g within) in
       let a = value_at (values_in o v g) i (omega arith) in
-      let w = entry-same g within i small a.0 a.1 in (
+      let w = entry_same g within i small a.0 a.1 in (
         ap (λ k. get_or e k 0) (sym here) ∙ w.0 ∙ ap (λ k. get_or e' k 0) here',
         λ d. ap (λ k. get_or v k d) (sym here)
             ∙ sym (get_or-drop (get_or o g 0) v i d)

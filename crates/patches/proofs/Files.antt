@@ -39,13 +39,13 @@ module _ (p : Packed) (bytes : List ℕ) (w : ℕ) (same : p.bytes.now ≡ bytes
   file_count = ap₂ (λ b s. length b / s) same wide
 
   module _ (table : Option ChunkTable) (offset rows : ℕ) where
-    pub file-kept : AllKept (index_rules (number p) (count p) table offset rows) → AllKept (index_rules (number_at bytes w) (length bytes / w) table offset rows)
-    file-kept h =
+    pub file_kept : AllKept (index_rules (number p) (count p) table offset rows) → AllKept (index_rules (number_at bytes w) (length bytes / w) table offset rows)
+    file_kept h =
         subst (λ s. AllKept (index_rules (number_at bytes s) (length bytes / s) table offset rows)) wide
         (subst (λ b. AllKept (index_rules (number_at b (size p.width)) (length b / size p.width) table offset rows)) same h)
 
-    pub file-first : (f : Refusal) → NamesFirst Column (index_rules (number p) (count p) table offset rows) f → NamesFirst Column (index_rules (number_at bytes w) (length bytes / w) table offset rows) f
-    file-first f h =
+    pub file_first : (f : Refusal) → NamesFirst Column (index_rules (number p) (count p) table offset rows) f → NamesFirst Column (index_rules (number_at bytes w) (length bytes / w) table offset rows) f
+    file_first f h =
         subst (λ s. NamesFirst Column (index_rules (number_at bytes s) (length bytes / s) table offset rows) f) wide
         (subst (λ b. NamesFirst Column (index_rules (number_at b (size p.width)) (length b / size p.width) table offset rows) f) same h)
 

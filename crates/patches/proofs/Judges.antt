@@ -58,45 +58,45 @@ module _ (t : ChunkTable) (offset rows : ℕ) (good : BadTable t offset rows →
   table_base = elim (cases_lt limit (number_at t.entries.now t.width 0)) [ inl h ↦ absurd (good (inr (inr (inr h)))) | inr h ↦ h ]
 
   module _ (p : Packed) (wide : size p.width ≡ t.width) (same : p.bytes.now ≡ t.entries.now) where
-    pub table-count : count p ≡ count_of_chunks offset rows
-    table-count =
+    pub table_count : count p ≡ count_of_chunks offset rows
+    table_count =
         let pos : 0 < size p.width = size_pos p.width in
         ap (λ b. length b / size p.width) same ∙ ap (λ n. n / size p.width) (table_length ∙ ap (λ w. w * count_of_chunks offset rows) (sym wide)) ∙ mul-div_cancel_left (count_of_chunks offset rows) pos
 
-    pub table-number : (k : ℕ) → number p k ≡ number_at t.entries.now t.width k
-    table-number k = ap₂ (λ b w. number_at b w k) same wide
+    pub table_number : (k : ℕ) → number p k ≡ number_at t.entries.now t.width k
+    table_number k = ap₂ (λ b w. number_at b w k) same wide
 
     -- a first wrong entry among the entries is one of the table
-    pub table-wrong : (f : ℕ → ℕ) (n base c : ℕ) → base ≡ number p 0 + t.within → FirstWrong f n (number p) base offset (count p) c → FirstWrong f n (number_at t.entries.now t.width) (number_at t.entries.now t.width 0 + t.within) offset (count_of_chunks offset rows) c
-    table-wrong f n base c is w =
-        let low : base ≡ number_at t.entries.now t.width 0 + t.within = is ∙ ap (λ k. k + t.within) (table-number 0) in
+    pub table_wrong : (f : ℕ → ℕ) (n base c : ℕ) → base ≡ number p 0 + t.within → FirstWrong f n (number p) base offset (count p) c → FirstWrong f n (number_at t.entries.now t.width) (number_at t.entries.now t.width 0 + t.within) offset (count_of_chunks offset rows) c
+    table_wrong f n base c is w =
+        let low : base ≡ number_at t.entries.now t.width 0 + t.within = is ∙ ap (λ k. k + t.within) (table_number 0) in
         record {
           later = w.later;
-          below = omega (arith, w.below, table-count);
-          wrong = λ e. w.wrong (table-number c ∙ e ∙ ap (λ b. b + count_under f n (chunk_start offset c)) (sym low));
-          before = λ d h l. sym (table-number d) ∙ w.before d h l ∙ ap (λ b. b + count_under f n (chunk_start offset d)) low;
+          below = omega (arith, w.below, table_count);
+          wrong = λ e. w.wrong (table_number c ∙ e ∙ ap (λ b. b + count_under f n (chunk_start offset c)) (sym low));
+          before = λ d h l. sym (table_number d) ∙ w.before d h l ∙ ap (λ b. b + count_under f n (chunk_start offset d)) low;
         }
 
     -- the entries fit the indices where no chunk is wrong
     pub table_fits : (f : ℕ → ℕ) (n base : ℕ) → base ≡ number p 0 + t.within → ((c : ℕ) → 1 ≤ c → c < count p → number p c ≡ base + count_under f n (chunk_start offset c)) → Fits f n (Some (record { entries = p; within = t.within })) offset rows
     table_fits f n base is right = record {
-      tabled = λ e. table-count;
+      tabled = λ e. table_count;
       near = table_within;
-      base = omega (arith, table_base, table-number 0);
+      base = omega (arith, table_base, table_number 0);
       counted = λ c h l. right c h l ∙ ap (λ b. b + count_under f n (chunk_start offset c)) is;
     }
 
     -- no chunk is wrong where every entry from chunk 1 on is right
-    pub table-right : (f : ℕ → ℕ) (n base : ℕ) → base ≡ number p 0 + t.within → ((c : ℕ) → 1 ≤ c → c < count p → number p c ≡ base + count_under f n (chunk_start offset c)) → (table : Option ChunkTable) → table ≡ Some t → (place : ℕ) → WrongChunk f n table offset rows place → ⊥
-    table-right f n base is right table e place wrong =
-        right-at (subst (λ o. WrongChunk f n o offset rows place) e wrong)
+    pub table_right : (f : ℕ → ℕ) (n base : ℕ) → base ≡ number p 0 + t.within → ((c : ℕ) → 1 ≤ c → c < count p → number p c ≡ base + count_under f n (chunk_start offset c)) → (table : Option ChunkTable) → table ≡ Some t → (place : ℕ) → WrongChunk f n table offset rows place → ⊥
+    table_right f n base is right table e place wrong =
+        right_at (subst (λ o. WrongChunk f n o offset rows place) e wrong)
       where
         low : base ≡ number_at t.entries.now t.width 0 + t.within
-        low = is ∙ ap (λ k. k + t.within) (table-number 0)
+        low = is ∙ ap (λ k. k + t.within) (table_number 0)
 
-        right-at : WrongChunk f n (Some t) offset rows place → ⊥
-        right-at (inl bad) = good bad.1
-        right-at (inr w) = w.1.wrong (sym (table-number place) ∙ right place w.1.later (omega (arith, w.1.below, table-count)) ∙ ap (λ b. b + count_under f n (chunk_start offset place)) low)
+        right_at : WrongChunk f n (Some t) offset rows place → ⊥
+        right_at (inl bad) = good bad.1
+        right_at (inr w) = w.1.wrong (sym (table_number place) ∙ right place w.1.later (omega (arith, w.1.below, table_count)) ∙ ap (λ b. b + count_under f n (chunk_start offset place)) low)
 
     -- the entries are those of the file
     pub table_same : (table : Option ChunkTable) → table ≡ Some t → SameTable (Some (record { entries = p; within = t.within })) table

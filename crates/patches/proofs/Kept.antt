@@ -72,13 +72,13 @@ module _ (f : ℕ → ℕ) (n offset rows : ℕ) (inside : Inside f n offset row
   own_low_entry = subst (λ o. entry o (first_kept offset a) ≤ entry o 0 + within o + count_under f n (offset + a)) own (kept_low f n offset rows inside chunks tabled counted has a b ab brows)
 
   module _ (q : Packed) (part : PartOf t.entries q (first_kept offset a) (end_kept offset b)) (low : ℕ) (low-is : low ≡ unwrap_or (got (number q) (count q) 0) 0) where
-    pub own-kept-low : low ≤ zero-got + t.within + dropped
-    own-kept-low =
+    pub own_kept_low : low ≤ zero-got + t.within + dropped
+    own_kept_low =
         let first : low ≡ number t.entries (first_kept offset a) = kept_first t q offset a b dropped (first_kept offset a) (end_kept offset b) (zero-got + t.within + dropped) low refl refl own_end own_apart part own_base low-is in
         omega (arith, first, own_low_entry, own_base, place)
 
-    pub own-kept-table : KeepsTable chunks (Some (record { entries = q; within = zero-got + t.within + dropped - low })) offset a b dropped
-    own-kept-table = kept_table t q offset a b dropped (first_kept offset a) (end_kept offset b) (zero-got + t.within + dropped) low refl refl own_end own_apart part own_base low-is own-kept-low chunks own
+    pub own_kept_table : KeepsTable chunks (Some (record { entries = q; within = zero-got + t.within + dropped - low })) offset a b dropped
+    own_kept_table = kept_table t q offset a b dropped (first_kept offset a) (end_kept offset b) (zero-got + t.within + dropped) low refl refl own_end own_apart part own_base low-is own_kept_low chunks own
 
 -- what the ghost fields of a column say of its chunk data
 pub record Good (g : ℕ → ℕ) (m : ℕ) (u : Option ChunkOffsets) (offset rows : ℕ) : Type 0 where
@@ -102,47 +102,47 @@ module _ (f g : ℕ → ℕ) (n m offset rows : ℕ) (up : Ascending f n) (insid
     first : ℕ
     first = first_kept offset a
 
-    kept-tabled : count_of_entries u ≡ count_of_chunks (offset + a) (b - a)
-    kept-tabled = omega (arith, kept.count, apart lt, chunks_some (offset + a) (b - a) (omega (arith, apart lt)))
+    kept_tabled : count_of_entries u ≡ count_of_chunks (offset + a) (b - a)
+    kept_tabled = omega (arith, kept.count, apart lt, chunks_some (offset + a) (b - a) (omega (arith, apart lt)))
 
-    some-entry : 0 < count_of_entries u
-    some-entry = omega (arith, kept.count, apart lt)
+    some_entry : 0 < count_of_entries u
+    some_entry = omega (arith, kept.count, apart lt)
 
-    zero-entry : entry u 0 ≡ entry t (first_kept offset a)
-    zero-entry = let e : first_kept offset a + 0 ≡ first_kept offset a = omega arith in kept.entries 0 some-entry ∙ ap (entry t) e
+    zero_entry : entry u 0 ≡ entry t (first_kept offset a)
+    zero_entry = let e : first_kept offset a + 0 ≡ first_kept offset a = omega arith in kept.entries 0 some_entry ∙ ap (entry t) e
 
-    end-within : end_kept offset b ≤ count_of_entries t
-    end-within = kept_end f n offset rows inside t good.tabled good.counted has a b (apart lt) brows
+    end_within : end_kept offset b ≤ count_of_entries t
+    end_within = kept_end f n offset rows inside t good.tabled good.counted has a b (apart lt) brows
 
     kept_near : within u ≤ phase (offset + a)
     kept_near =
         elim (cases_lt 0 (first_kept offset a)) [
           | inl h ↦
-              omega (arith, kept.base, zero-entry, apart lt, end-within, good.counted (first_kept offset a) h (omega (arith, end-within, apart lt)), under_gap f n up (chunk_start offset (first_kept offset a)) (offset + a) (omega arith), from_is)
+              omega (arith, kept.base, zero_entry, apart lt, end_within, good.counted (first_kept offset a) h (omega (arith, end_within, apart lt)), under_gap f n up (chunk_start offset (first_kept offset a)) (offset + a) (omega arith), from_is)
           | inr h ↦
               (let e : first_kept offset a ≡ 0 = omega arith in
-              let z : entry u 0 ≡ entry t 0 = zero-entry ∙ ap (entry t) e in
+              let z : entry u 0 ≡ entry t 0 = zero_entry ∙ ap (entry t) e in
               let none : count_under f n (chunk_start offset 0) ≡ 0 = under_first f n offset rows inside 0 refl in
-              omega (arith, kept.base, z, good.near, from_is, near-zero))
+              omega (arith, kept.base, z, good.near, from_is, near_zero))
         ]
       where
         -- no index is below the offset, so few are below offset + a
-        near-zero : count_under f n (offset + a) ≤ a
-        near-zero =
-            let none : count_under f n offset ≡ 0 = split-none in
+        near_zero : count_under f n (offset + a) ≤ a
+        near_zero =
+            let none : count_under f n offset ≡ 0 = split_none in
             omega (arith, under_gap f n up offset (offset + a) (omega arith), none)
           where
-            split-none : count_under f n offset ≡ 0
-            split-none = split_under f offset n 0 (record { within = omega arith; before = λ k h. absurd (omega arith); after = λ k h l. (inside k l).0 })
+            split_none : count_under f n offset ≡ 0
+            split_none = split_under f offset n 0 (record { within = omega arith; before = λ k h. absurd (omega arith); after = λ k h l. (inside k l).0 })
 
-    kept-counted : (c : ℕ) → 1 ≤ c → c < count_of_entries u → entry u c ≡ entry u 0 + within u + count_under g m (chunk_start (offset + a) c)
-    kept-counted c h l =
+    kept_counted : (c : ℕ) → 1 ≤ c → c < count_of_entries u → entry u c ≡ entry u 0 + within u + count_under g m (chunk_start (offset + a) c)
+    kept_counted c h l =
         let start : chunk_start (offset + a) c ≡ chunk_start offset (first_kept offset a + c) = omega arith in
         let x = chunk_start offset (first_kept offset a + c) in
         let low : from ≤ count_under f n x = omega (arith, from_is, under_mono f (offset + a) x n (omega arith)) in
         let high : count_under f n x ≤ to = omega (arith, to_is, under_mono f x (offset + b) n (omega (arith, kept.count))) in
         let part : from + count_under g m x ≡ count_under f n x = under_part f g n m from to x up len top same low high in
-        let here : entry t (first_kept offset a + c) ≡ entry t 0 + within t + count_under f n x = good.counted (first_kept offset a + c) (omega arith) (omega (arith, kept.count, end-within)) in
+        let here : entry t (first_kept offset a + c) ≡ entry t 0 + within t + count_under f n x = good.counted (first_kept offset a + c) (omega arith) (omega (arith, kept.count, end_within)) in
         let e : count_under g m (chunk_start (offset + a) c) ≡ count_under g m x = ap (count_under g m) start in
         omega (arith, kept.entries c l, here, part, e, kept.base)
 
@@ -159,8 +159,8 @@ module _ (f g : ℕ → ℕ) (n m offset rows : ℕ) (up : Ascending f n) (insid
       let k = kept refl in
       record {
         some = λ e. omega (arith, k.0);
-        tabled = λ e. kept-tabled (Some s) k.1 k.0 k.2;
+        tabled = λ e. kept_tabled (Some s) k.1 k.0 k.2;
         near = kept_near (Some s) k.1 k.0 k.2;
         low = omega (arith, k.2.base, good.low, top, order);
-        counted = kept-counted (Some s) k.1 k.0 k.2;
+        counted = kept_counted (Some s) k.1 k.0 k.2;
       }

@@ -42,22 +42,22 @@ module _ {V : Type 0} (c : Column V) (a b from to : ℕ) (ab : a ≤ b) (brows :
     part_count = omega (arith, part.counted, top, c.paired)
 
     -- the indices that remain lie among the rows that remain
-    pub part-inside : Inside (number q) (count q) (c.offset + a) (b - a)
-    part-inside i h =
+    pub part_inside : Inside (number q) (count q) (c.offset + a) (b - a)
+    part_inside i h =
         let place : from + i < patches c = omega (arith, part_count, top, c.paired) in
         let low : c.offset + a ≤ index c (from + i) = (under_split (index c) (c.offset + a) (patches c) c.indices.up).after (from + i) (omega arith) place in
         let high : index c (from + i) < c.offset + b = (under_split (index c) (c.offset + b) (patches c) c.indices.up).before (from + i) (omega (arith, part_count)) in
         rw (part.each i h) (low, omega arith)
 
-    pub part-paired : length (take (to - from) (drop from c.values.now)) ≡ count q
-    part-paired = cut_length c.values.now (length c.values.now) from to refl order top ∙ sym part_count
+    pub part_paired : length (take (to - from) (drop from c.values.now)) ≡ count q
+    part_paired = cut_length c.values.now (length c.values.now) from to refl order top ∙ sym part_count
 
-    pub part-good : (u : Option ChunkOffsets) → Info c.chunks u c.offset a b from to → Good (number q) (count q) u (c.offset + a) (b - a)
-    part-good u info = good_kept (index c) (number q) (patches c) (count q) c.offset c.rows c.indices.up c.inside c.chunks (good_own c) a b from to brows ab from_is to_is part_count part.each u info
+    pub part_good : (u : Option ChunkOffsets) → Info c.chunks u c.offset a b from to → Good (number q) (count q) u (c.offset + a) (b - a)
+    part_good u info = good_kept (index c) (number q) (patches c) (count q) c.offset c.rows c.indices.up c.inside c.chunks (good_own c) a b from to brows ab from_is to_is part_count part.each u info
 
     -- a row that remains has the patch that it had
-    pub part-patched : (k : ℕ) → k < b - a → seek (number q) (c.offset + a + k) 0 (take (to - from) (drop from c.values.now)) ≡ patch_at c (a + k)
-    part-patched k h =
+    pub part_patched : (k : ℕ) → k < b - a → seek (number q) (c.offset + a + k) 0 (take (to - from) (drop from c.values.now)) ≡ patch_at c (a + k)
+    part_patched k h =
         let e : c.offset + a + k ≡ c.offset + (a + k) = omega arith in
         rw e
         (cut_seek (index c) (number q) c.values.now (length c.values.now) from to (c.offset + (a + k)) refl order top
@@ -65,16 +65,16 @@ module _ {V : Type 0} (c : Column V) (a b from to : ℕ) (ab : a ≤ b) (brows :
         (λ i l z. omega (arith, (under_split (index c) (c.offset + a) (patches c) c.indices.up).before i (omega arith)))
         (λ i l m z. omega (arith, (under_split (index c) (c.offset + b) (patches c) c.indices.up).after i (omega arith) (omega (arith, c.paired)))))
 
-    pub part-counted : count q ≡ count_under (index c) (patches c) (c.offset + b) - from
-    part-counted = omega (arith, part_count)
+    pub part_counted : count q ≡ count_under (index c) (patches c) (c.offset + b) - from
+    part_counted = omega (arith, part_count)
 
     pub part_left : remaining (to - from) ≡ remaining (count q)
     part_left = ap remaining (sym part_count)
 
     module _ (u : Option ChunkOffsets) (info : Info c.chunks u c.offset a b from to) where
       -- chunk data go with the last patch, and with no other
-      pub table-gone : count q ≡ 0 → has_table u ≡ false
-      table-gone none =
+      pub table_gone : count q ≡ 0 → has_table u ≡ false
+      table_gone none =
           elim (cases_Bool (has_table u)) [
             | inl has ↦ absurd (omega (arith, (info has).0, part_count))
             | inr has ↦ has

@@ -71,19 +71,19 @@ module _ (f : ℕ → ℕ) (x : ℕ) where
 
   -- two tests, of the index before a place and of the one there, decide whether the place is the number of those below
   module _ (n m : ℕ) (up : Ascending f n) (le : m ≤ n) where
-    counted-split : count_under f n x ≡ m → Split f n x m
-    counted-split e = rw e at (under_split n up)
+    counted_split : count_under f n x ≡ m → Split f n x m
+    counted_split e = rw e at (under_split n up)
 
-    pub count-by-both : (a b : Bool) → Decides a ((k : ℕ) → k + 1 ≡ m → f k < x) → Decides b (m < n → x ≤ f m) → a ≡ true → Decides b (count_under f n x ≡ m)
-    count-by-both a b low high t = (
+    pub count_by_both : (a b : Bool) → Decides a ((k : ℕ) → k + 1 ≡ m → f k < x) → Decides b (m < n → x ≤ f m) → a ≡ true → Decides b (count_under f n x ≡ m)
+    count_by_both a b low high t = (
       (λ u. split_under n m (ends_split n m up le (low.0 t) (high.0 u))),
-      (λ e. let s = counted-split e in high.1 (λ h. s.after m (omega arith) h)),
+      (λ e. let s = counted_split e in high.1 (λ h. s.after m (omega arith) h)),
     )
 
-    pub count-by-first : (a : Bool) → Decides a ((k : ℕ) → k + 1 ≡ m → f k < x) → a ≡ false → Decides a (count_under f n x ≡ m)
-    count-by-first a low t = (
+    pub count_by_first : (a : Bool) → Decides a ((k : ℕ) → k + 1 ≡ m → f k < x) → a ≡ false → Decides a (count_under f n x ≡ m)
+    count_by_first a low t = (
       (λ u. absurd (false≢true (sym t ∙ u))),
-      (λ e. let s = counted-split e in low.1 (λ k q. s.before k (omega arith))),
+      (λ e. let s = counted_split e in low.1 (λ k q. s.before k (omega arith))),
     )
 
   pub count_not_past : (n m : ℕ) → n < m → Decides false (count_under f n x ≡ m)

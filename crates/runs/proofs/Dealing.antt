@@ -87,14 +87,14 @@ module _ {V : Type 0} where
     pub leads : Leads m start (events_of (take i entries) before cells) run
 
   module _ (m : Assignment V) (start : Run) (listed : List Entry) (before : List V) where
-    pub dealt-none : Dealt m start start listed listed before before 0 0
-    dealt-none = record { place = omega arith; as_long = refl; as_many = refl; attempts = refl; rest = refl; leads = leads_nothing m start }
+    pub dealt_none : Dealt m start start listed listed before before 0 0
+    dealt_none = record { place = omega arith; as_long = refl; as_many = refl; attempts = refl; rest = refl; leads = leads_nothing m start }
 
-    pub dealt-more : (run next : Run) (entries entries' : List Entry) (cells cells' ys : List V) (i at at' n : ℕ) (d : Entry) (a : Attempt) (o : Outcome)
+    pub dealt_more : (run next : Run) (entries entries' : List Entry) (cells cells' ys : List V) (i at at' n : ℕ) (d : Entry) (a : Attempt) (o : Outcome)
         → Dealt m start run listed entries before cells i at → i < length entries → (get_or entries i d).attempt ≡ a → n ≡ min (cells_of a) (length cells - at) → at' ≡ at + n
         → length ys ≡ n → cells' ≡ put_mid at n cells ys → length cells' ≡ length cells → entries' ≡ set entries i (record { attempt = a; outcome = o })
         → Leads m run (event_of a o (take n (drop at cells)) ys ∷ []) next → Dealt m start next listed entries' before cells' (i + 1) at'
-    dealt-more run next entries entries' cells cells' ys i at at' n d a o s lt is size to long put same put-entry one =
+    dealt_more run next entries entries' cells cells' ys i at at' n d a o s lt is size to long put same put-entry one =
         let e : Entry = record { attempt = a; outcome = o } in
         let done : List Entry = take i entries in
         let inside : at ≤ length cells = omega (arith, s.place) in
@@ -126,11 +126,11 @@ module _ {V : Type 0} where
       whole : take i entries ≡ entries
       whole = take_all i entries all
 
-      pub all-leads : Leads m start (events_of entries before cells) run
-      all-leads = subst (λ l. Leads m start (events_of l before cells) run) whole s.leads
+      pub all_leads : Leads m start (events_of entries before cells) run
+      all_leads = subst (λ l. Leads m start (events_of l before cells) run) whole s.leads
 
       pub all_listed : start ≡ Unopened → AllRight m [] (events_of entries before cells) × Stands m (events_of entries before cells) run
-      all_listed is = every_list_lem m start run (events_of entries before cells) all-leads is
+      all_listed is = every_list_lem m start run (events_of entries before cells) all_leads is
 
       pub all_rest : drop (cells_in listed) cells ≡ drop (cells_in listed) before
       all_rest =

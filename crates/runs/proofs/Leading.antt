@@ -22,7 +22,7 @@ use Rattle.runs.specs.Steps.{open_rules, step_rules, close_rules, Replaced, Begu
 use Rattle.runs.specs.Events.{Event, event_of, opened, stepped, closed, abandoned, Opening, or_else, opening_in, open_after, steps_in, ends_in, handed_in, back_in}
 use Rattle.runs.specs.Attempts.{Answered, RightOpening, RightStep, RightCells, RightClosing, RightAbandoning, Right, AllRight, OpenedFor, WentThrough, NotOpened, Underway, WasClosed, WasAbandoned, Stands, Leads, LeadsAside}
 use Rattle.runs.proofs.Joins.{replaced_none, replaced_join, replaced_same}
-use Rattle.runs.proofs.Pasts.{Idle, opening_push, steps_push, ends_push, handed_push, back_push, opening_stays, opening-idle, steps-idle, ends-idle, handed-idle, back-idle}
+use Rattle.runs.proofs.Pasts.{Idle, opening_push, steps_push, ends_push, handed_push, back_push, opening_stays, opening_idle, steps_idle, ends_idle, handed_idle, back_idle}
 
 -- a number that is not past another, and two that are not unlike
 not_past : (a b : ℕ) → (b ≤ a → ⊥) → a < b
@@ -53,8 +53,8 @@ module _ {V : Type 0} (m : Assignment V) (past : List (Event V)) (e : Event V) w
 
   went_idle : (n count : ℕ) → Idle e → WentThrough m past n count → WentThrough m (past ++ e ∷ []) n count
   went_idle n count idle w =
-      let eh : handed_in (past ++ e ∷ []) ≡ handed_in past = handed-idle past e idle in
-      let eb : back_in (past ++ e ∷ []) ≡ back_in past = back-idle past e idle in
+      let eh : handed_in (past ++ e ∷ []) ≡ handed_in past = handed_idle past e idle in
+      let eb : back_in (past ++ e ∷ []) ≡ back_in past = back_idle past e idle in
       record {
         all_rows = ap length eh ∙ w.all_rows;
         replaced = subst (λ l. Replaced m.patch 0 l (back_in (past ++ e ∷ []))) (sym eh) (subst (λ l. Replaced m.patch 0 (handed_in past) l) (sym eb) w.replaced);
@@ -64,23 +64,23 @@ module _ {V : Type 0} (m : Assignment V) (past : List (Event V)) (e : Event V) w
   -- an attempt that was not accepted leaves the run what it was
   pub stands_idle : (run : Run) → Idle e → Stands m past run → Stands m (past ++ e ∷ []) run
   stands_idle Unopened idle s = record {
-    not_opened = opening-idle past e idle ∙ s.not_opened;
-    no_steps = steps-idle past e idle ∙ s.no_steps;
-    not_ended = ends-idle past e idle ∙ s.not_ended;
-    nothing_handed = handed-idle past e idle ∙ s.nothing_handed;
-    nothing_back = back-idle past e idle ∙ s.nothing_back;
+    not_opened = opening_idle past e idle ∙ s.not_opened;
+    no_steps = steps_idle past e idle ∙ s.no_steps;
+    not_ended = ends_idle past e idle ∙ s.not_ended;
+    nothing_handed = handed_idle past e idle ∙ s.nothing_handed;
+    nothing_back = back_idle past e idle ∙ s.nothing_back;
   }
   stands_idle (Open run) idle s = record {
     opened_for = opened_more run.rows run.phase s.opened_for;
-    not_ended = ends-idle past e idle ∙ s.not_ended;
-    steps = steps-idle past e idle ∙ s.steps;
+    not_ended = ends_idle past e idle ∙ s.not_ended;
+    steps = steps_idle past e idle ∙ s.steps;
     rows_of_set = s.rows_of_set;
     done = went_idle _ _ idle s.done;
   }
   stands_idle (Closed run) idle s = record {
     phase = s.phase;
     opened_for = opened_more run.rows s.phase s.opened_for;
-    ended = ends-idle past e idle ∙ s.ended;
+    ended = ends_idle past e idle ∙ s.ended;
     rows_of_set = s.rows_of_set;
     done = went_idle _ _ idle s.done;
   }
@@ -88,7 +88,7 @@ module _ {V : Type 0} (m : Assignment V) (past : List (Event V)) (e : Event V) w
     rows = s.rows;
     phase = s.phase;
     opened_for = opened_more s.rows s.phase s.opened_for;
-    ended = ends-idle past e idle ∙ s.ended;
+    ended = ends_idle past e idle ∙ s.ended;
   }
 
   went_more : (n count n' count' : ℕ) (before after : List V) → handed_in (past ++ e ∷ []) ≡ handed_in past ++ before → back_in (past ++ e ∷ []) ≡ back_in past ++ after
@@ -131,13 +131,13 @@ module _ {V : Type 0} (m : Assignment V) where
 
   pub lead_not_opened : (rows phase : ℕ) (f : Refusal) → NamesFirst RunPart (open_rules rows) f → Leads m Unopened (opened rows phase (Refused f) ∷ []) Unopened
   lead_not_opened rows phase f why =
-      idle_leads Unopened (opened rows phase (Refused f)) (record { no-opening = refl; no_step = refl; no_end = refl; none-handed = refl; none-back = refl })
+      idle_leads Unopened (opened rows phase (Refused f)) (record { no_opening = refl; no_step = refl; no_end = refl; none_handed = refl; none_back = refl })
       (λ past s. subst (λ o. RightOpening o rows (Refused f)) (sym s.not_opened) why)
 
   -- a second opening is not made
   opening_not_made : (run : Run) (rows phase : ℕ) → ((past : List (Event V)) → Stands m past run → (o : Opening) × (opening_in past ≡ Some o)) → Leads m run (opened rows phase NotMade ∷ []) run
   opening_not_made run rows phase has =
-      idle_leads run (opened rows phase NotMade) (record { no-opening = refl; no_step = refl; no_end = refl; none-handed = refl; none-back = refl })
+      idle_leads run (opened rows phase NotMade) (record { no_opening = refl; no_step = refl; no_end = refl; none_handed = refl; none_back = refl })
       (λ past s. subst (λ o. RightOpening o rows NotMade) (sym (has past s).1) refl)
 
   pub second_opening : (run : OpenRun) (rows phase : ℕ) → Leads m (Open run) (opened rows phase NotMade ∷ []) (Open run)
@@ -145,30 +145,30 @@ module _ {V : Type 0} (m : Assignment V) where
 
   -- a run that is closed, or abandoned, or not opened yet, is not there to step, to close or to abandon
   module _ (run : Run) (none : (past : List (Event V)) → Stands m past run → open_after past ≡ None) where
-    step-not-made : (rows_of_set : ℕ) (cells : List V) → Leads m run (stepped rows_of_set NotMade cells cells ∷ []) run
-    step-not-made rows_of_set cells =
-        idle_leads run (stepped rows_of_set NotMade cells cells) (record { no-opening = refl; no_step = refl; no_end = refl; none-handed = refl; none-back = refl })
+    step_not_made : (rows_of_set : ℕ) (cells : List V) → Leads m run (stepped rows_of_set NotMade cells cells ∷ []) run
+    step_not_made rows_of_set cells =
+        idle_leads run (stepped rows_of_set NotMade cells cells) (record { no_opening = refl; no_step = refl; no_end = refl; none_handed = refl; none_back = refl })
         (λ past s. (
           subst (λ o. RightStep o (steps_in past) (length cells) (min rows_of_set m.rows) NotMade) (sym (none past s)) refl,
           subst (λ o. RightCells m.patch o (steps_in past) NotMade cells cells) (sym (none past s)) refl,
         ))
 
-    close-not-made : Leads m run (closed NotMade ∷ []) run
-    close-not-made =
-        idle_leads run (closed NotMade) (record { no-opening = refl; no_step = refl; no_end = refl; none-handed = refl; none-back = refl })
+    close_not_made : Leads m run (closed NotMade ∷ []) run
+    close_not_made =
+        idle_leads run (closed NotMade) (record { no_opening = refl; no_step = refl; no_end = refl; none_handed = refl; none_back = refl })
         (λ past s. subst (λ o. RightClosing o (steps_in past) NotMade) (sym (none past s)) refl)
 
-    abandon-not-made : Leads m run (abandoned NotMade ∷ []) run
-    abandon-not-made =
-        idle_leads run (abandoned NotMade) (record { no-opening = refl; no_step = refl; no_end = refl; none-handed = refl; none-back = refl })
+    abandon_not_made : Leads m run (abandoned NotMade ∷ []) run
+    abandon_not_made =
+        idle_leads run (abandoned NotMade) (record { no_opening = refl; no_step = refl; no_end = refl; none_handed = refl; none_back = refl })
         (λ past s. subst (λ o. RightAbandoning o NotMade) (sym (none past s)) refl)
 
     -- no attempt but an opening
-    later-not-made : (a : Attempt) (cells : List V) → ((rows phase : ℕ) → Leads m run (opened rows phase NotMade ∷ []) run) → Leads m run (event_of a NotMade cells cells ∷ []) run
-    later-not-made (Open' rows phase) cells at_open = at_open rows phase
-    later-not-made (Step n rows_of_set) cells at_open = step-not-made rows_of_set cells
-    later-not-made Close cells at_open = close-not-made
-    later-not-made Abandon cells at_open = abandon-not-made
+    later_not_made : (a : Attempt) (cells : List V) → ((rows phase : ℕ) → Leads m run (opened rows phase NotMade ∷ []) run) → Leads m run (event_of a NotMade cells cells ∷ []) run
+    later_not_made (Open' rows phase) cells at_open = at_open rows phase
+    later_not_made (Step n rows_of_set) cells at_open = step_not_made rows_of_set cells
+    later_not_made Close cells at_open = close_not_made
+    later_not_made Abandon cells at_open = abandon_not_made
 
   unopened_none : (past : List (Event V)) → Stands m past Unopened → open_after past ≡ None
   unopened_none past s = open_now past None s.not_opened s.not_ended
@@ -176,56 +176,56 @@ module _ {V : Type 0} (m : Assignment V) where
   -- before a run is opened only an opening is made
   pub unopened_aside : (a : Attempt) → ((rows phase : ℕ) → a ≡ Open' rows phase → ⊥) → LeadsAside m Unopened a NotMade Unopened
   unopened_aside (Open' rows phase) not-open cells = absurd (not-open rows phase refl)
-  unopened_aside (Step n rows_of_set) not-open cells = step-not-made Unopened unopened_none rows_of_set cells
-  unopened_aside Close not-open cells = close-not-made Unopened unopened_none
-  unopened_aside Abandon not-open cells = abandon-not-made Unopened unopened_none
+  unopened_aside (Step n rows_of_set) not-open cells = step_not_made Unopened unopened_none rows_of_set cells
+  unopened_aside Close not-open cells = close_not_made Unopened unopened_none
+  unopened_aside Abandon not-open cells = abandon_not_made Unopened unopened_none
 
   pub closed_stays : (run : ClosedRun) (a : Attempt) (cells : List V) → Leads m (Closed run) (event_of a NotMade cells cells ∷ []) (Closed run)
   closed_stays run a cells =
-      later-not-made (Closed run) (λ past s. ended_now past s.ended) a cells (λ rows phase. opening_not_made (Closed run) rows phase (λ past s. (s.opened_for.opening, s.opened_for.is)))
+      later_not_made (Closed run) (λ past s. ended_now past s.ended) a cells (λ rows phase. opening_not_made (Closed run) rows phase (λ past s. (s.opened_for.opening, s.opened_for.is)))
 
   pub abandoned_stays : (a : Attempt) (cells : List V) → Leads m Abandoned (event_of a NotMade cells cells ∷ []) Abandoned
   abandoned_stays a cells =
-      later-not-made Abandoned (λ past s. ended_now past s.ended) a cells (λ rows phase. opening_not_made Abandoned rows phase (λ past s. (s.opened_for.opening, s.opened_for.is)))
+      later_not_made Abandoned (λ past s. ended_now past s.ended) a cells (λ rows phase. opening_not_made Abandoned rows phase (λ past s. (s.opened_for.opening, s.opened_for.is)))
 
   -- what is open after the past of an open run
   module _ (run : OpenRun) (past : List (Event V)) (s : Stands m past (Open run)) where
     opening : Opening
     opening = s.opened_for.opening
 
-    open-here : open_after past ≡ Some s.opened_for.opening
-    open-here = open_now past (Some s.opened_for.opening) s.opened_for.is s.not_ended
+    open_here : open_after past ≡ Some s.opened_for.opening
+    open_here = open_now past (Some s.opened_for.opening) s.opened_for.is s.not_ended
 
     -- the rules at the chunk of the past are those at the run's chunk
-    step-at : (n rows_of_set : ℕ) (outcome : Outcome) → Answered (step_rules run.rows run.phase run.chunk n rows_of_set) outcome → RightStep (open_after past) (steps_in past) n rows_of_set outcome
-    step-at n rows_of_set outcome h =
-        subst (λ o. RightStep o (steps_in past) n rows_of_set outcome) (sym open-here)
+    step_at : (n rows_of_set : ℕ) (outcome : Outcome) → Answered (step_rules run.rows run.phase run.chunk n rows_of_set) outcome → RightStep (open_after past) (steps_in past) n rows_of_set outcome
+    step_at n rows_of_set outcome h =
+        subst (λ o. RightStep o (steps_in past) n rows_of_set outcome) (sym open_here)
         (subst (λ r. Answered (step_rules r (s.opened_for.opening.phase % 1024) (steps_in past) n rows_of_set) outcome) (sym s.opened_for.rows_are)
         (subst (λ p. Answered (step_rules run.rows p (steps_in past) n rows_of_set) outcome) (sym s.opened_for.phase_is)
         (subst (λ c. Answered (step_rules run.rows run.phase c n rows_of_set) outcome) (sym s.steps) h)))
 
     close_at : (outcome : Outcome) → Answered (close_rules run.rows run.phase run.chunk) outcome → RightClosing (open_after past) (steps_in past) outcome
     close_at outcome h =
-        subst (λ o. RightClosing o (steps_in past) outcome) (sym open-here)
+        subst (λ o. RightClosing o (steps_in past) outcome) (sym open_here)
         (subst (λ r. Answered (close_rules r (s.opened_for.opening.phase % 1024) (steps_in past)) outcome) (sym s.opened_for.rows_are)
         (subst (λ p. Answered (close_rules run.rows p (steps_in past)) outcome) (sym s.opened_for.phase_is)
         (subst (λ c. Answered (close_rules run.rows run.phase c) outcome) (sym s.steps) h)))
 
     cells_at : (before after : List V) → Replaced m.patch (first_row_of run.chunk run.phase run.rows) before after → RightCells m.patch (open_after past) (steps_in past) Accepted before after
     cells_at before after h =
-        subst (λ o. RightCells m.patch o (steps_in past) Accepted before after) (sym open-here)
+        subst (λ o. RightCells m.patch o (steps_in past) Accepted before after) (sym open_here)
         (subst (λ r. Replaced m.patch (first_row_of (steps_in past) (s.opened_for.opening.phase % 1024) r) before after) (sym s.opened_for.rows_are)
         (subst (λ p. Replaced m.patch (first_row_of (steps_in past) p run.rows) before after) (sym s.opened_for.phase_is)
         (subst (λ c. Replaced m.patch (first_row_of c run.phase run.rows) before after) (sym s.steps) h)))
 
-    cells-kept : (f : Refusal) (cells : List V) → RightCells m.patch (open_after past) (steps_in past) (Refused f) cells cells
-    cells-kept f cells = subst (λ o. RightCells m.patch o (steps_in past) (Refused f) cells cells) (sym open-here) refl
+    cells_kept : (f : Refusal) (cells : List V) → RightCells m.patch (open_after past) (steps_in past) (Refused f) cells cells
+    cells_kept f cells = subst (λ o. RightCells m.patch o (steps_in past) (Refused f) cells cells) (sym open_here) refl
 
   -- a refused step
   pub lead_refused : (run : OpenRun) (rows_of_set : ℕ) (f : Refusal) (cells : List V) → NamesFirst RunPart (step_rules run.rows run.phase run.chunk (length cells) (min rows_of_set m.rows)) f → Leads m (Open run) (stepped rows_of_set (Refused f) cells cells ∷ []) (Open run)
   lead_refused run rows_of_set f cells why =
-      idle_leads (Open run) (stepped rows_of_set (Refused f) cells cells) (record { no-opening = refl; no_step = refl; no_end = refl; none-handed = refl; none-back = refl })
-      (λ past s. (step-at run past s (length cells) (min rows_of_set m.rows) (Refused f) why, cells-kept run past s f cells))
+      idle_leads (Open run) (stepped rows_of_set (Refused f) cells cells) (record { no_opening = refl; no_step = refl; no_end = refl; none_handed = refl; none_back = refl })
+      (λ past s. (step_at run past s (length cells) (min rows_of_set m.rows) (Refused f) why, cells_kept run past s f cells))
 
   -- an accepted step
   pub lead_stepped : (run next : OpenRun) (rows_of_set : ℕ) (before after : List V) → AllKept (step_rules run.rows run.phase run.chunk (length before) (min rows_of_set m.rows)) → Advanced m.patch run next before after
@@ -238,7 +238,7 @@ module _ {V : Type 0} (m : Assignment V) where
       let to : first_row_of next.chunk next.phase next.rows ≡ end_row_of run.chunk run.phase run.rows =
       ap (λ c. first_row_of c next.phase next.rows) adv.next_chunk ∙ ap (λ p. first_row_of (run.chunk + 1) p next.rows) adv.phase_stays ∙ ap (λ r. first_row_of (run.chunk + 1) run.phase r) adv.rows_stay in
       let up : end_row_of run.chunk run.phase run.rows ≡ first_row_of run.chunk run.phase run.rows + length before = omega arith in (
-        ((step-at run past s (length before) (min rows_of_set m.rows) Accepted kept, cells_at run past s before after adv.replaced), tt),
+        ((step_at run past s (length before) (min rows_of_set m.rows) Accepted kept, cells_at run past s before after adv.replaced), tt),
         record {
           opened_for = record { opening = s.opened_for.opening; is = opening_stays past e s.opened_for.opening s.opened_for.is; rows_are = s.opened_for.rows_are ∙ sym adv.rows_stay; phase_is = s.opened_for.phase_is ∙ sym adv.phase_stays };
           not_ended = omega (arith, ends_push past e, s.not_ended);
@@ -281,14 +281,14 @@ module _ {V : Type 0} (m : Assignment V) where
 
   pub lead_not_closed : (run : OpenRun) (f : Refusal) → NamesFirst RunPart (close_rules run.rows run.phase run.chunk) f → Leads m (Open run) (closed (Refused f) ∷ []) (Open run)
   lead_not_closed run f why =
-      idle_leads (Open run) (closed (Refused f)) (record { no-opening = refl; no_step = refl; no_end = refl; none-handed = refl; none-back = refl })
+      idle_leads (Open run) (closed (Refused f)) (record { no_opening = refl; no_step = refl; no_end = refl; none_handed = refl; none_back = refl })
       (λ past s. close_at run past s (Refused f) why)
 
   -- abandoning
   pub lead_abandoned : (run : OpenRun) → Leads m (Open run) (abandoned Accepted ∷ []) Abandoned
   lead_abandoned run past s =
       let e : Event V = abandoned Accepted in (
-        (subst (λ o. RightAbandoning o Accepted) (sym (open-here run past s)) refl, tt),
+        (subst (λ o. RightAbandoning o Accepted) (sym (open_here run past s)) refl, tt),
         record {
           rows = run.rows;
           phase = run.phase;
@@ -300,32 +300,32 @@ module _ {V : Type 0} (m : Assignment V) where
   -- A step with the first so many rows of the set, as the set w that has them: it is judged by their number, and an
   -- accepted one replaces what the set itself would.
   module _ (w : Assignment V) (rows_of_set : ℕ) (same : SameAssignment w (windowed m 0 rows_of_set)) (run next : OpenRun) (before after : List V) where
-    part-rows : w.rows ≡ min rows_of_set m.rows
-    part-rows = same.rows ∙ omega arith
+    part_rows : w.rows ≡ min rows_of_set m.rows
+    part_rows = same.rows ∙ omega arith
 
-    part-patch : (r : ℕ) → r < w.rows → w.patch r ≡ m.patch r
-    part-patch r h =
+    part_patch : (r : ℕ) → r < w.rows → w.patch r ≡ m.patch r
+    part_patch r h =
         let span : ℕ = span_in 0 rows_of_set m.rows in
         let first : start_in 0 rows_of_set m.rows + r ≡ r = omega arith in
         same.patch r ∙ cond-true (ltb r span) (m.patch (start_in 0 rows_of_set m.rows + r)) None (lt-ltb r span (omega (arith, same.rows))) ∙ ap m.patch first
 
-    pub lead-part : (r : Result Unit Refusal) → Judged RunPart (step_rules run.rows run.phase run.chunk (length before) w.rows) r → Stepped w.patch run next before after r
+    pub lead_part : (r : Result Unit Refusal) → Judged RunPart (step_rules run.rows run.phase run.chunk (length before) w.rows) r → Stepped w.patch run next before after r
         → (o : Outcome) → o ≡ outcome_of r → Leads m (Open run) (stepped rows_of_set o before after ∷ []) (Open next)
-    lead-part (Ok u) judged adv o is =
-        let kept : AllKept (step_rules run.rows run.phase run.chunk (length before) (min rows_of_set m.rows)) = subst (λ n. AllKept (step_rules run.rows run.phase run.chunk (length before) n)) part-rows judged in
+    lead_part (Ok u) judged adv o is =
+        let kept : AllKept (step_rules run.rows run.phase run.chunk (length before) (min rows_of_set m.rows)) = subst (λ n. AllKept (step_rules run.rows run.phase run.chunk (length before) n)) part_rows judged in
         let long : length before ≡ end_row_of run.chunk run.phase run.rows - first_row_of run.chunk run.phase run.rows = same_by (length before) (end_row_of run.chunk run.phase run.rows - first_row_of run.chunk run.phase run.rows) (λ h. judged.1.0 0 (refl, h)) in
         let rows : w.rows ≡ run.rows = same_by w.rows run.rows (λ h. judged.1.1.0 0 (refl, h)) in
-        let counts : (n : ℕ) → n ≤ run.rows → patches_below w.patch n ≡ patches_below m.patch n = λ n h. count_same w.patch m.patch n (λ k l. part-patch k (omega arith)) in
+        let counts : (n : ℕ) → n ≤ run.rows → patches_below w.patch n ≡ patches_below m.patch n = λ n h. count_same w.patch m.patch n (λ k l. part_patch k (omega arith)) in
         let mine : Advanced m.patch run next before after = record {
           rows_stay = adv.rows_stay;
           phase_stays = adv.phase_stays;
           next_chunk = adv.next_chunk;
           counted = omega (arith, adv.counted, counts (first_row_of run.chunk run.phase run.rows) (omega arith), counts (end_row_of run.chunk run.phase run.rows) (omega arith));
-          replaced = replaced_same m.patch w.patch (first_row_of run.chunk run.phase run.rows) before after (λ k h. part-patch (first_row_of run.chunk run.phase run.rows + k) (omega arith)) adv.replaced;
+          replaced = replaced_same m.patch w.patch (first_row_of run.chunk run.phase run.rows) before after (λ k h. part_patch (first_row_of run.chunk run.phase run.rows + k) (omega arith)) adv.replaced;
         } in
         subst (λ x. Leads m (Open run) (stepped rows_of_set x before after ∷ []) (Open next)) (sym is) (lead_stepped run next rows_of_set before after kept mine)
-    lead-part (Err f) judged left o is =
-        let why : NamesFirst RunPart (step_rules run.rows run.phase run.chunk (length before) (min rows_of_set m.rows)) f = subst (λ n. NamesFirst RunPart (step_rules run.rows run.phase run.chunk (length before) n) f) part-rows judged in
+    lead_part (Err f) judged left o is =
+        let why : NamesFirst RunPart (step_rules run.rows run.phase run.chunk (length before) (min rows_of_set m.rows)) f = subst (λ n. NamesFirst RunPart (step_rules run.rows run.phase run.chunk (length before) n) f) part_rows judged in
         subst (λ x. Leads m (Open run) (stepped rows_of_set x before after ∷ []) (Open next)) (sym is)
         (subst (λ cells. Leads m (Open run) (stepped rows_of_set (Refused f) before cells ∷ []) (Open next)) (sym left.1)
         (subst (λ n. Leads m (Open run) (stepped rows_of_set (Refused f) before before ∷ []) (Open n)) (sym left.0) (lead_refused run rows_of_set f before why)))

@@ -54,11 +54,11 @@ module _ {V : Type 0} (patch : ℕ → Patch V) (start : ℕ) (before : List V) 
 
   -- the row that is found next: its patch is put into its cell, or it has none
   module _ (row next n : ℕ) (cells : List V) (low : start ≤ row) (up : row ≤ next) (none : NoneFrom patch row next) (p : Partly row cells n) where
-    pub to-hit : (v : V) → next < start + length before → patch next ≡ Some v → Partly (next + 1) (set cells (next - start) v) (n + 1)
-    to-hit v lt e = partly_hit next n cells v (omega arith) lt e (partly_skip row next n cells up none p)
+    pub to_hit : (v : V) → next < start + length before → patch next ≡ Some v → Partly (next + 1) (set cells (next - start) v) (n + 1)
+    to_hit v lt e = partly_hit next n cells v (omega arith) lt e (partly_skip row next n cells up none p)
 
-    pub to-miss : patch next ≡ None → Partly (next + 1) cells n
-    to-miss e =
+    pub to_miss : patch next ≡ None → Partly (next + 1) cells n
+    to_miss e =
         partly_skip next (next + 1) n cells (omega arith) (λ k a b. let z : k ≡ next = omega arith in rw z e)
         (partly_skip row next n cells up none p)
 

@@ -40,24 +40,24 @@ module _ {V : Type 0} where
 
   -- an event that changes nothing: it was not accepted
   pub record Idle (e : Event V) : Type 0 where
-    pub no-opening : opening_of e ≡ None
+    pub no_opening : opening_of e ≡ None
     pub no_step : step_of e ≡ 0
     pub no_end : end_of e ≡ 0
-    pub none-handed : handed_of e ≡ []
-    pub none-back : back_of e ≡ []
+    pub none_handed : handed_of e ≡ []
+    pub none_back : back_of e ≡ []
 
   module _ (past : List (Event V)) (e : Event V) (idle : Idle e) where
-    pub opening-idle : opening_in (past ++ e ∷ []) ≡ opening_in past
-    opening-idle = opening_push past e ∙ ap (or_else (opening_in past)) idle.no-opening ∙ else_none (opening_in past)
+    pub opening_idle : opening_in (past ++ e ∷ []) ≡ opening_in past
+    opening_idle = opening_push past e ∙ ap (or_else (opening_in past)) idle.no_opening ∙ else_none (opening_in past)
 
-    pub steps-idle : steps_in (past ++ e ∷ []) ≡ steps_in past
-    steps-idle = omega (arith, steps_push past e, idle.no_step)
+    pub steps_idle : steps_in (past ++ e ∷ []) ≡ steps_in past
+    steps_idle = omega (arith, steps_push past e, idle.no_step)
 
-    pub ends-idle : ends_in (past ++ e ∷ []) ≡ ends_in past
-    ends-idle = omega (arith, ends_push past e, idle.no_end)
+    pub ends_idle : ends_in (past ++ e ∷ []) ≡ ends_in past
+    ends_idle = omega (arith, ends_push past e, idle.no_end)
 
-    pub handed-idle : handed_in (past ++ e ∷ []) ≡ handed_in past
-    handed-idle = handed_push past e ∙ ap (λ l. handed_in past ++ l) idle.none-handed ∙ append-nil (handed_in past)
+    pub handed_idle : handed_in (past ++ e ∷ []) ≡ handed_in past
+    handed_idle = handed_push past e ∙ ap (λ l. handed_in past ++ l) idle.none_handed ∙ append-nil (handed_in past)
 
-    pub back-idle : back_in (past ++ e ∷ []) ≡ back_in past
-    back-idle = back_push past e ∙ ap (λ l. back_in past ++ l) idle.none-back ∙ append-nil (back_in past)
+    pub back_idle : back_in (past ++ e ∷ []) ≡ back_in past
+    back_idle = back_push past e ∙ ap (λ l. back_in past ++ l) idle.none_back ∙ append-nil (back_in past)

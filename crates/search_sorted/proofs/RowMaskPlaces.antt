@@ -23,16 +23,16 @@ module _ (bytes : List ℕ) (rows place needle total : ℕ) (all : total ≡ set
         compare_within natural (set_rows_of bytes rows) place needle 0 l ∙ ap Some e
 
     module _ (before : ℕ) (front : before ≡ set_below bytes (min needle rows)) where
-      pub row-less : place < before → compare_at natural (set_rows_of bytes rows) place needle ≡ Some Less
-      row-less h =
+      pub row_less : place < before → compare_at natural (set_rows_of bytes rows) place needle ≡ Some Less
+      row_less h =
           let x = get_or (set_rows_of bytes rows) place 0 in
           let l : set_below bytes x < set_below bytes (min needle rows) = omega (arith, found.before) in
           let k : x < needle = omega (arith, below_earlier bytes x (min needle rows) l) in
           compared Less (rank_is x needle Less k)
 
-      pub row-equal : place ≡ before → (has : Bool) → has ≡ (ltb needle rows && is_set bytes needle) → has ≡ true
+      pub row_equal : place ≡ before → (has : Bool) → has ≡ (ltb needle rows && is_set bytes needle) → has ≡ true
           → compare_at natural (set_rows_of bytes rows) place needle ≡ Some Equal
-      row-equal e has tells t =
+      row_equal e has tells t =
           let x = get_or (set_rows_of bytes rows) place 0 in
           let both = and_parts (ltb needle rows) (is_set bytes needle) (sym tells ∙ t) in
           let one : bit bytes needle ≡ 1 = eqb-true (bit bytes needle) 1 both.1 in
@@ -69,9 +69,9 @@ module _ (bytes : List ℕ) (rows place needle total : ℕ) (all : total ≡ set
           let one : bit bytes needle ≡ 1 = ap (bit bytes) (sym e) ∙ found.set in
           and_from (ltb needle rows) (is_set bytes needle) (lt-ltb needle rows lt) (eq-eqb (bit bytes needle) 1 one)
 
-      pub row-greater : before < place → compare_at natural (set_rows_of bytes rows) place needle ≡ Some Greater
-      row-greater h = above (omega arith) (λ e. omega (arith, counted e))
+      pub row_greater : before < place → compare_at natural (set_rows_of bytes rows) place needle ≡ Some Greater
+      row_greater h = above (omega arith) (λ e. omega (arith, counted e))
 
-      pub row-unset : before ≤ place → (has : Bool) → has ≡ (ltb needle rows && is_set bytes needle) → has ≡ false
+      pub row_unset : before ≤ place → (has : Bool) → has ≡ (ltb needle rows && is_set bytes needle) → has ≡ false
           → compare_at natural (set_rows_of bytes rows) place needle ≡ Some Greater
-      row-unset h has tells f = above h (λ e. both_ways (ltb needle rows && is_set bytes needle) (sym tells ∙ f) (held e))
+      row_unset h has tells f = above h (λ e. both_ways (ltb needle rows && is_set bytes needle) (sym tells ∙ f) (held e))

@@ -7,7 +7,7 @@ use Rattle.patches.specs.declared.corrections.ChunkTable.{ChunkTable}
 use Rattle.patches.specs.Loads.{SameTable}
 use Rattle.patches.specs.Narrows.{NarrowedTo, remaining}
 use Rattle.worked.specs.Cases.{TableP, HoldsP, TableIs, WorkedCases}
-use Rattle.worked.proofs.Known.{Known, known_column, known_found, known_missed, known_past, kept_count, known-narrowed}
+use Rattle.worked.proofs.Known.{Known, known_column, known_found, known_missed, known_past, kept_count, known_narrowed}
 
 -- packed numbers by their bytes and their width
 read : (bytes given : List ℕ) (w v : ℕ) → bytes ≡ given → w ≡ v → listed (number_at bytes w) (length bytes / w) ≡ listed (number_at given v) (length given / v)
@@ -37,11 +37,11 @@ module _ (c : Column ℕ) (p : HoldsP c) where
 
   -- P narrowed to its rows 1000 to 2051
   known_part : (d : Column ℕ) → NarrowedTo c d 1000 2051 → Known d 1000 1051 (1023 ∷ 1024 ∷ 2050 ∷ []) (0 ∷ 2 ∷ 3 ∷ []) 1
-  known_part d to = known-narrowed known to (lit< tt) (lit< tt) (lit≤ tt)
+  known_part d to = known_narrowed known to (lit< tt) (lit< tt) (lit≤ tt)
 
   -- and once more, to rows 24 to 1051 of what is left
   known_rest : (d e : Column ℕ) → NarrowedTo c d 1000 2051 → NarrowedTo d e 24 1051 → Known e 1024 1027 (1024 ∷ 2050 ∷ []) (2 ∷ 3 ∷ []) 0
-  known_rest d e to again = known-narrowed (known_part d to) again (lit< tt) (lit< tt) (lit≤ tt)
+  known_rest d e to again = known_narrowed (known_part d to) again (lit< tt) (lit< tt) (lit≤ tt)
 
 pub worked_cases : WorkedCases
 worked_cases = record {

@@ -68,18 +68,18 @@ module _ {c : Column ℕ} {o n : ℕ} {l es : List ℕ} {w : ℕ} (known : Known
 
   module _ {d : Column ℕ} {a b : ℕ} (to : NarrowedTo c d a b) where
     -- how many patches lie before the rows that are kept
-    dropped-are : to.dropped ≡ under l (o + a)
-    dropped-are = to.dropped_is ∙ under_is a
+    dropped_are : to.dropped ≡ under l (o + a)
+    dropped_are = to.dropped_is ∙ under_is a
 
     -- how many patches remain
     pub kept_count : patches d ≡ under l (o + b) - under l (o + a)
-    kept_count = let low = dropped-are in let high = under_is b in let all = to.count in cc
+    kept_count = let low = dropped_are in let high = under_is b in let all = to.count in cc
 
-    kept-index : (i : ℕ) → i < under l (o + b) - under l (o + a) → index d i ≡ get_or l (under l (o + a) + i) 0
-    kept-index i h =
+    kept_index : (i : ℕ) → i < under l (o + b) - under l (o + a) → index d i ≡ get_or l (under l (o + a) + i) 0
+    kept_index i h =
         let top = under_le (λ k. get_or l k 0) (o + b) (length l) in
         to.indices i (omega (arith, kept_count))
-        ∙ ap (λ x. index c (x + i)) dropped-are
+        ∙ ap (λ x. index c (x + i)) dropped_are
         ∙ index_is (under l (o + a) + i) (omega arith)
 
     -- where some patch remains, and the chunks kept have their entries
@@ -92,28 +92,28 @@ module _ {c : Column ℕ} {o n : ℕ} {l es : List ℕ} {w : ℕ} (known : Known
       kept =
           let P : ℕ → Type 0 = λ x. KeptTable c.chunks d.chunks x a b to.dropped in
           let Q : ℕ → Type 0 = λ x. KeptTable c.chunks d.chunks o a b x in
-          subst Q dropped-are (subst P known.offset_is (to.table kept_there))
+          subst Q dropped_are (subst P known.offset_is (to.table kept_there))
 
-      entry-is : (i : ℕ) → i < length es → entry c.chunks i ≡ get_or es i 0
-      entry-is i h =
+      entry_is : (i : ℕ) → i < length es → entry c.chunks i ≡ get_or es i 0
+      entry_is i h =
           let e = list_count (entry c.chunks) (count_of_entries c.chunks) es known.table_is.entries_are in
           list_at (entry c.chunks) (count_of_entries c.chunks) es known.table_is.entries_are i (omega (arith, e))
 
       kept_entry : (i : ℕ) → i < end_kept o b - first_kept o a → entry d.chunks i ≡ get_or es (first_kept o a + i) 0
-      kept_entry i h = kept.entries i (omega (arith, kept.count)) ∙ entry-is (first_kept o a + i) (omega arith)
+      kept_entry i h = kept.entries i (omega (arith, kept.count)) ∙ entry_is (first_kept o a + i) (omega arith)
 
-      kept-within : within d.chunks ≡ get_or es 0 0 + w + under l (o + a) - get_or es (first_kept o a + 0) 0
-      kept-within = omega (arith, kept.base, kept_entry 0 (omega arith), entry-is 0 (omega arith), known.table_is.within_is)
+      kept_within : within d.chunks ≡ get_or es 0 0 + w + under l (o + a) - get_or es (first_kept o a + 0) 0
+      kept_within = omega (arith, kept.base, kept_entry 0 (omega arith), entry_is 0 (omega arith), known.table_is.within_is)
 
       -- what is left of the column
-      pub known-narrowed : Known d (o + a) (b - a) (part l (under l (o + a)) (under l (o + b))) (part es (first_kept o a) (end_kept o b)) (get_or es 0 0 + w + under l (o + a) - get_or es (first_kept o a + 0) 0)
-      known-narrowed = record {
+      pub known_narrowed : Known d (o + a) (b - a) (part l (under l (o + a)) (under l (o + b))) (part es (first_kept o a) (end_kept o b)) (get_or es 0 0 + w + under l (o + a) - get_or es (first_kept o a + 0) 0)
+      known_narrowed = record {
         offset_is = to.offset ∙ ap (λ x. x + a) known.offset_is;
         rows_are = to.rows;
-        stored_are = listed_same (index d) (λ i. get_or l (under l (o + a) + i) 0) (patches d) (under l (o + b) - under l (o + a)) kept_count kept-index;
+        stored_are = listed_same (index d) (λ i. get_or l (under l (o + a) + i) 0) (patches d) (under l (o + b) - under l (o + a)) kept_count kept_index;
         table_is = record {
           there = kept_there;
           entries_are = listed_same (entry d.chunks) (λ i. get_or es (first_kept o a + i) 0) (count_of_entries d.chunks) (end_kept o b - first_kept o a) kept.count kept_entry;
-          within_is = kept-within;
+          within_is = kept_within;
         };
       }

@@ -1,5 +1,5 @@
 use Rattle.std.proofs.Common.{◌+◌, ◌<◌, length, inl, inr, arith}
-use Rattle.lanes.proofs.LaneOffsets.{begin_first, begin_top, wrong-from, right-before, right_all}
+use Rattle.lanes.proofs.LaneOffsets.{begin_first, begin_top, wrong_from, right_before, right_all}
 use Rattle.lanes.proofs.lanes.loads.first_wrong_entry.Goals as goal
 
 pub overflow-add-lane : goal.overflow-add-lane
@@ -28,8 +28,8 @@ returns-in-Some c =
     let l = c.loop-lane in
     let found = c.in-Some.ensures in
     let there : l.lane + 1 < length t.offsets.now = omega arith in (
-      wrong-from t.offsets.now t.entries.now c.requires.right t.rows t.lanes l.lane there c.in-Some.place found.0,
-      (λ k h. right-before t.offsets.now t.entries.now c.requires.right t.rows t.lanes l.lane there k (omega (arith, found.0)) (l.invariant.1 k) (found.1 k h)),
+      wrong_from t.offsets.now t.entries.now c.requires.right t.rows t.lanes l.lane there c.in-Some.place found.0,
+      (λ k h. right_before t.offsets.now t.entries.now c.requires.right t.rows t.lanes l.lane there k (omega (arith, found.0)) (l.invariant.1 k) (found.1 k h)),
     )
 
 pub loop-lane-preserved : goal.loop-lane-preserved
@@ -38,7 +38,7 @@ loop-lane-preserved c =
     let l = c.loop-lane in
     let there : l.lane + 1 < length t.offsets.now = omega arith in (
       inr there,
-      (λ k h. right-before t.offsets.now t.entries.now c.requires.right t.rows t.lanes l.lane there k h (l.invariant.1 k) (c.in-default.ensures k)),
+      (λ k h. right_before t.offsets.now t.entries.now c.requires.right t.rows t.lanes l.lane there k h (l.invariant.1 k) (c.in-default.ensures k)),
     )
 
 pub returns : goal.returns

@@ -3,10 +3,10 @@ use Rattle.search_sorted.specs.Numbers.{count, number}
 use Rattle.patches.proofs.Entries.{got_some, got_none}
 use Rattle.patches.proofs.ChunkCells.{written_more, written_all}
 use Rattle.patches.proofs.column.cells.write_cells.Goals as goal
-use Rattle.patches.proofs.column.cells.write_cells.Goals.{in-Some, in-default}
+use Rattle.patches.proofs.column.cells.write_cells.Goals.{in-Some, in_default}
 
-pub offset-bounds-cells-index : goal.offset-bounds-cells-index
-offset-bounds-cells-index g c =
+pub offset_bounds-cells-index : goal.offset_bounds-cells-index
+offset_bounds-cells-index g c =
     let p = c.args.numbers.now in
     let at = got_some (number p) (count p) c.loop-place.place c.in-Some.index c.in-Some.ensures in
     let h : c.in-Some.index - c.args.base < length c.loop-place.cells = omega (arith, at.1, c.requires.among c.loop-place.place (omega arith) (omega arith)) in
@@ -21,7 +21,7 @@ loop-place-preserved g c =
       | in-Some w ↦
           let at = got_some (number p) (count p) l.place w.in-Some.index w.in-Some.ensures in
           rw w.cells-is (written_more (number p) a.base a.from a.to a.values.now a.cells.now (count p) l.place w.in-Some.index l.cells w.index-values-place.result c.requires.rising c.requires.numbered c.requires.valued c.requires.among (omega arith) (omega arith) (omega arith) at.1 w.index-values-place.is l.invariant)
-      | in-default w ↦ absurd (omega (arith, got_none (number p) (count p) l.place w.in-default.ensures, c.requires.numbered))
+      | in_default w ↦ absurd (omega (arith, got_none (number p) (count p) l.place w.in_default.ensures, c.requires.numbered))
     ]
 
 pub returns : goal.returns

@@ -3,7 +3,7 @@ use Rattle.search_sorted.specs.declared.packed.Packed.{Packed}
 use Rattle.search_sorted.specs.Packed.{Ascending}
 use Rattle.search_sorted.specs.Numbers.{count, number}
 use Rattle.patches.specs.Indices.{count_under}
-use Rattle.patches.proofs.Unders.{count-by-both, count-by-first, count_not_past}
+use Rattle.patches.proofs.Unders.{count_by_both, count_by_first, count_not_past}
 use Rattle.patches.proofs.column.loads.is_count_under.Goals as goal
 
 -- a test decides the count for numbers, and so for equal ones
@@ -18,14 +18,14 @@ returns-then-place-len c =
     let p = c.numbers-numbers.result in
     told p _ c.args.bound c.args.place false c.numbers-numbers.ensures (count_not_past (number p) c.args.bound (count p) c.args.place (omega arith))
 
-pub returns-then-below-before : goal.returns-then-below-before
-returns-then-below-before c =
+pub returns-then-below_before : goal.returns-then-below_before
+returns-then-below_before c =
     let p = c.numbers-numbers.result in
     told p _ c.args.bound c.args.place _ c.numbers-numbers.ensures
-    (count-by-both (number p) c.args.bound (count p) c.args.place (rises p _ c.numbers-numbers.ensures c.args.indices.now.up) (omega arith) c.below-before.result c.not-below-at.result c.below-before.ensures c.not-below-at.ensures c.if-below-before.true)
+    (count_by_both (number p) c.args.bound (count p) c.args.place (rises p _ c.numbers-numbers.ensures c.args.indices.now.up) (omega arith) c.below_before.result c.not_below_at.result c.below_before.ensures c.not_below_at.ensures c.if-below_before.true)
 
-pub returns-else-below-before : goal.returns-else-below-before
-returns-else-below-before c =
+pub returns-else-below_before : goal.returns-else-below_before
+returns-else-below_before c =
     let p = c.numbers-numbers.result in
     told p _ c.args.bound c.args.place _ c.numbers-numbers.ensures
-    (count-by-first (number p) c.args.bound (count p) c.args.place (rises p _ c.numbers-numbers.ensures c.args.indices.now.up) (omega arith) c.below-before.result c.below-before.ensures c.if-below-before.false)
+    (count_by_first (number p) c.args.bound (count p) c.args.place (rises p _ c.numbers-numbers.ensures c.args.indices.now.up) (omega arith) c.below_before.result c.below_before.ensures c.if-below_before.false)

@@ -4,8 +4,8 @@ use Rattle.patches.specs.Windows.{start_in, span_in, part_of}
 use Rattle.patches.proofs.Counts.{count_part}
 use Rattle.patches.proofs.window.WindowPatchSet.below.Goals as goal
 
-pub overflow-sub-result : goal.overflow-sub-result
-overflow-sub-result g c =
+pub overflow_sub-result : goal.overflow_sub-result
+overflow_sub-result g c =
     let w = c.args.self.now in
     let m = g.S.PatchSet.meaning w.set.now in
     let first : ℕ = start_in w.first w.end m.rows in

@@ -1,6 +1,6 @@
 use Rattle.std.proofs.Common.{sym, ◌∙◌, arith}
 use Rattle.patches.proofs.Counts.{count_le}
-use Rattle.runs.proofs.Partly.{Partly, partly_none, to-hit, to-miss, partly_all, partly_replaced}
+use Rattle.runs.proofs.Partly.{Partly, partly_none, to_hit, to_miss, partly_all, partly_replaced}
 use Rattle.runs.proofs.run.steps.replace.Goals as goal
 
 pub loop-next-init : goal.loop-next-init
@@ -13,8 +13,8 @@ loop-next-preserved g c =
       omega (arith, h.0),
       omega arith,
       elim c.match-find.branch [
-        | goal.in-Some-find w ↦ simp (w.cells-is, w.count_is) (to-hit _ _ _ _ _ _ _ i.0 h.0 h.2 i.2 _ (omega arith) (sym c.find.ensures ∙ w.in-Some-find.is))
-        | goal.in-default-find w ↦ simp (w.cells-is, w.count_is) (to-miss _ _ _ _ _ _ _ i.0 h.0 h.2 i.2 (sym c.find.ensures ∙ w.in-default-find.is))
+        | goal.in-Some-find w ↦ simp (w.cells-is, w.count_is) (to_hit _ _ _ _ _ _ _ i.0 h.0 h.2 i.2 _ (omega arith) (sym c.find.ensures ∙ w.in-Some-find.is))
+        | goal.in-default-find w ↦ simp (w.cells-is, w.count_is) (to_miss _ _ _ _ _ _ _ i.0 h.0 h.2 i.2 (sym c.find.ensures ∙ w.in-default-find.is))
       ],
     )
 

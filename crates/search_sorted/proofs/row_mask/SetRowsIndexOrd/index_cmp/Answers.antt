@@ -1,5 +1,5 @@
 use Rattle.std.proofs.Common.{sym, arith}
-use Rattle.search_sorted.proofs.RowMaskPlaces.{row_past, row-less, row-equal, row-greater, row-unset}
+use Rattle.search_sorted.proofs.RowMaskPlaces.{row_past, row_less, row_equal, row_greater, row_unset}
 use Rattle.search_sorted.proofs.row_mask.SetRowsIndexOrd.index_cmp.Goals as goal
 use Rattle.search_sorted.proofs.row_mask.SetRowsIndexOrd.index_cmp.Goals.{else-place-before-2-via-then-place-before-2+else-contains}
 use Rattle.search_sorted.proofs.row_mask.SetRowsIndexOrd.index_cmp.Goals.{else-place-before-2-via-else-place-before-2}
@@ -19,7 +19,7 @@ returns-then-place-before c =
     let needle = c.args.needle.now in
     let total = c.true_count in
     let rank = c.rank-before in
-    sym (row-less bytes mask.rows c.args.place needle total.result total.ensures
+    sym (row_less bytes mask.rows c.args.place needle total.result total.ensures
     (omega arith) rank.result rank.ensures (omega arith))
 
 pub returns-then-contains : goal.returns-then-contains
@@ -30,7 +30,7 @@ returns-then-contains c =
     let total = c.true_count in
     let rank = c.rank-before in
     let has = c.contains in
-    sym (row-equal bytes mask.rows c.args.place needle total.result total.ensures
+    sym (row_equal bytes mask.rows c.args.place needle total.result total.ensures
     (omega arith) rank.result rank.ensures (omega arith)
     has.result has.ensures c.if-contains.true)
 
@@ -43,11 +43,11 @@ returns-else-place-before-2 c =
     let rank = c.rank-before in
     elim c.else-place-before-2.branch [
       | else-place-before-2-via-then-place-before-2+else-contains w ↦
-          sym (row-unset bytes mask.rows c.args.place needle total.result total.ensures
+          sym (row_unset bytes mask.rows c.args.place needle total.result total.ensures
           (omega arith) rank.result rank.ensures (omega arith)
           w.contains.result w.contains.ensures w.if-contains.false)
       | else-place-before-2-via-else-place-before-2 w ↦
-          sym (row-greater bytes mask.rows c.args.place needle total.result total.ensures
+          sym (row_greater bytes mask.rows c.args.place needle total.result total.ensures
           (omega arith) rank.result rank.ensures
           (omega (arith, w.if-place-before-2.false)))
     ]

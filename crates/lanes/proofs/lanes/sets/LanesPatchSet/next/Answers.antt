@@ -2,7 +2,7 @@ use Rattle.std.proofs.Common.{◌≡◌, ℕ, ◌+◌, ◌/◌, ap, inl, inr, ar
 use Rattle.std.proofs.lemmas.Bool.{cases_lt}
 use Rattle.patches.specs.Chunks.{count_of_chunks}
 use Rattle.lanes.specs.LaneMeaning.{begin_of_chunk}
-use Rattle.lanes.proofs.LaneAnswers.{row_in, chunk_last, next_none, next-later}
+use Rattle.lanes.proofs.LaneAnswers.{row_in, chunk_last, next_none, next_later}
 use Rattle.lanes.proofs.lanes.sets.LanesPatchSet.next.Goals as goal
 
 pub returns-then-place-self : goal.returns-then-place-self
@@ -30,4 +30,4 @@ returns g c =
     let s = c.args.self.now in
     let d = c.chunk-of-later.result in
     let there = c.chunk-of-later.ensures in
-    next-later s c.args.r c.if-r-self.false c.in-default.ensures c.chunk-begin-place.result d c.chunk-begin-place.ensures there.there.0 there.there.1 there.holds.0 there.holds.1 c.next-in-2.result c.next-in-2.ensures
+    next_later s c.args.r c.if-r-self.false c.in-default.ensures c.chunk-begin-place.result d c.chunk-begin-place.ensures there.there.0 there.there.1 there.holds.0 there.holds.1 c.next-in-2.result c.next-in-2.ensures

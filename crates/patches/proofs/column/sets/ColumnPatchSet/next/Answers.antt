@@ -7,4 +7,4 @@ use Rattle.patches.proofs.column.sets.ColumnPatchSet.next.Goals as goal
 pub returns : goal.returns
 returns g c =
     let s = c.args.self.now in
-    place_next s c.args.r c.search-index.result c.search-index.ensures c.patched-row.result (c.patched-row.ensures ∙ ap (got (row_at s) (patches s)) c.to-index-place.ensures)
+    place_next s c.args.r c.search_index.result c.search_index.ensures c.patched_row.result (c.patched_row.ensures ∙ ap (got (row_at s) (patches s)) c.to_index-place.ensures)
