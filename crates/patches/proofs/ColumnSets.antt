@@ -1,5 +1,5 @@
 -- A column's patches by its indices: how many lie before a row, and which is the next.
-use Rattle.std.proofs.Common.{◌≡◌, ℕ, zero, suc, ◌+◌, ◌-◌, ◌<◌, ◌≤◌, true, ◌⊎◌, List, length, get_or, is_some, Some, None, Option, sym, refl, ap, ◌∙◌, inl, inr, arith}
+use Rattle.std.proofs.Common.{◌≡◌, ℕ, zero, suc, ◌+◌, ◌<◌, ◌≤◌, List, length, Some, None, Option, sym, refl, ap, inl, inr, arith}
 use Rattle.std.proofs.lemmas.Bool.{cases_lt}
 use Rattle.search_sorted.specs.declared.search.SearchResult.{SearchResult}
 use Rattle.search_sorted.specs.Search.{place_of}
@@ -10,9 +10,9 @@ use Rattle.patches.specs.declared.column.Column.{Column}
 use Rattle.patches.specs.Assignments.{patches_below, Next, one}
 use Rattle.patches.specs.Indices.{seek, count_under}
 use Rattle.patches.specs.SeekLaws.{seek_none, seek_there}
-use Rattle.patches.specs.Columns.{index, patches, patch_at, row_at, column_meaning}
+use Rattle.patches.specs.Columns.{index, patches, row_at, column_meaning}
 use Rattle.patches.specs.Lookups.{LooksUp}
-use Rattle.patches.proofs.Counts.{one_some, one_none, count_past}
+use Rattle.patches.proofs.Counts.{one_some, one_none}
 use Rattle.patches.proofs.Entries.{got_some, got_none}
 use Rattle.patches.proofs.Rows.{looked_place}
 use Rattle.patches.proofs.Unders.{under_split}

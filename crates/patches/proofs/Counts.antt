@@ -1,7 +1,7 @@
 -- How many rows have a patch.
-use Rattle.std.proofs.Common.{◌≡◌, ℕ, zero, suc, ◌+◌, ◌-◌, ◌<◌, ◌≤◌, min, true, false, cond, ltb, ◌⊎◌, is_some, Some, None, sym, refl, ap, ◌∙◌, inl, inr, add-one, arith}
+use Rattle.std.proofs.Common.{◌≡◌, ℕ, zero, suc, ◌+◌, ◌<◌, ◌≤◌, min, true, ltb, is_some, Some, None, sym, refl, ap, ◌∙◌, inl, inr, add-one, arith}
 use Rattle.std.proofs.lemmas.Bool.{false≢true, cases_lt, cond-true, cond-false, lt-ltb, le-ltb}
-use Rattle.patches.specs.Assignments.{Patch, one, patches_below, NoneFrom, Next}
+use Rattle.patches.specs.Assignments.{Patch, one, patches_below, NoneFrom}
 use Rattle.patches.specs.Windows.{part_of}
 
 pub one_le : {V : Type 0} (o : Patch V) → one o ≤ 1

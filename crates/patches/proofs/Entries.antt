@@ -1,14 +1,12 @@
 -- Chunk entries, and how many indices lie before a chunk.
-use Rattle.std.proofs.Common.{◌≡◌, ℕ, ◌+◌, ◌-◌, ◌*◌, ◌/◌, ◌%◌, ◌<◌, ◌≤◌, true, ltb, ◌⊎◌, Some, None, Option, unwrap_or, sym, refl, ap, ◌∙◌, subst, inl, inr, arith}
+use Rattle.std.proofs.Common.{◌≡◌, ℕ, ◌+◌, ◌<◌, ◌≤◌, true, ltb, Some, None, Option, unwrap_or, sym, ap, ◌∙◌, subst, inl, inr, arith}
 use Rattle.std.proofs.lemmas.Bool.{cases_lt, cond-true, cond-false, lt-ltb, le-ltb}
-use Rattle.search_sorted.specs.Packed.{Ascending}
 use Rattle.search_sorted.specs.Numbers.{count, number, got}
-use Rattle.search_sorted.proofs.Lefts.{Split}
 use Rattle.patches.specs.declared.table.ChunkOffsets.{ChunkOffsets}
-use Rattle.patches.specs.Chunks.{phase, count_of_chunks, chunk_start}
+use Rattle.patches.specs.Chunks.{count_of_chunks, chunk_start}
 use Rattle.patches.specs.Indices.{count_under, Inside}
 use Rattle.patches.specs.Tables.{has_table, count_of_entries, entry, within}
-use Rattle.patches.proofs.Unders.{split_under, under_split}
+use Rattle.patches.proofs.Unders.{split_under}
 use Rattle.patches.proofs.Judges.{chunks_some, first_got}
 
 -- what came is the number at the place, or the place is past the end

@@ -1,5 +1,5 @@
 -- From the rules that a file keeps to what a column holds.
-use Rattle.std.proofs.Common.{◌≡◌, ℕ, zero, suc, ◌+◌, ◌-◌, ◌*◌, ◌/◌, ◌%◌, ◌<◌, ◌≤◌, true, ◌⊎◌, List, [], ◌∷◌, ◌++◌, length, Option, Result, sym, refl, ap, ◌∙◌, subst, ap₂, inl, inr, div-add-mod', zero-mul, arith}
+use Rattle.std.proofs.Common.{◌≡◌, ℕ, zero, suc, ◌+◌, ◌*◌, ◌/◌, ◌%◌, ◌<◌, ◌≤◌, List, length, Option, refl, ap, ◌∙◌, subst, ap₂, inl, inr, div-add-mod', zero-mul, arith}
 use Rattle.std.proofs.lemmas.Bool.{cases_eq, cases_lt}
 use Rattle.search_sorted.specs.declared.packed.Packed.{Packed}
 use Rattle.search_sorted.specs.Packed.{size, number_at, Ascending}
@@ -7,11 +7,10 @@ use Rattle.search_sorted.specs.Numbers.{count, number}
 use Rattle.patches.specs.declared.refusal.Part.TheVariants.{Column}
 use Rattle.patches.specs.declared.refusal.Refusal.{Refusal}
 use Rattle.patches.specs.declared.corrections.ChunkTable.{ChunkTable}
-use Rattle.patches.specs.declared.table.ChunkOffsets.{ChunkOffsets}
 use Rattle.patches.specs.Refusals.{AllKept, NamesFirst}
 use Rattle.patches.specs.Chunks.{limit}
 use Rattle.patches.specs.Indices.{Inside}
-use Rattle.patches.specs.Loads.{shape_rules, index_rules, Sound}
+use Rattle.patches.specs.Loads.{shape_rules, index_rules}
 
 module _ (w : ℕ) (bytes : List ℕ) (values rows offset : ℕ) (kept : AllKept (shape_rules w bytes values rows offset)) where
   pub shape_whole : length bytes % w ≡ 0

@@ -1,8 +1,7 @@
 -- Rising indices between two bounds, and in a part of the indices.
-use Rattle.std.proofs.Common.{◌≡◌, ℕ, zero, suc, ◌+◌, ◌-◌, ◌<◌, ◌≤◌, ◌⊎◌, sym, refl, ap, ◌∙◌, inl, inr, arith}
+use Rattle.std.proofs.Common.{◌≡◌, ℕ, zero, suc, ◌+◌, ◌-◌, ◌<◌, ◌≤◌, inl, inr, arith}
 use Rattle.std.proofs.lemmas.Bool.{cases_lt}
 use Rattle.search_sorted.specs.Packed.{Ascending}
-use Rattle.search_sorted.proofs.Lefts.{Split}
 use Rattle.patches.specs.Indices.{count_under}
 use Rattle.patches.proofs.Unders.{split_under, under_split}
 

@@ -1,5 +1,5 @@
 -- Rules, and which of them decides.
-use Rattle.std.proofs.Common.{◌≡◌, ℕ, ◌+◌, ◌-◌, ◌*◌, ◌/◌, ◌%◌, ◌<◌, ◌≤◌, eqb, ltb, ◌⊎◌, List, [], ◌∷◌, ◌++◌, length, IfOk, Some, None, Ok, Err, Option, Result, unwrap_or, sym, refl, ap, ◌∙◌, subst, ap₂, inl, inr, arith}
+use Rattle.std.proofs.Common.{◌≡◌, ℕ, ◌+◌, ◌-◌, ◌*◌, ◌/◌, ◌<◌, ◌≤◌, eqb, ltb, List, [], ◌∷◌, ◌++◌, length, IfOk, Some, None, Ok, Err, Option, Result, unwrap_or, sym, refl, ap, ◌∙◌, subst, ap₂, inl, inr, arith}
 use native.Mathlib.Nat.{mul-div_cancel_left}
 use Rattle.std.proofs.lemmas.Bool.{cases_eq, cases_lt, cond-true, cond-false, lt-ltb, ne_eqb}
 use Rattle.search_sorted.specs.declared.packed.Packed.{Packed}
@@ -14,7 +14,7 @@ use Rattle.patches.specs.Chunks.{limit, phase, count_of_chunks, chunk_start}
 use Rattle.patches.specs.Indices.{count_under, Inside}
 use Rattle.patches.specs.declared.refusal.Part.TheVariants.{Column}
 use Rattle.patches.specs.declared.refusal.Reason.TheVariants.{ChunkData}
-use Rattle.patches.specs.Loads.{BadTable, FirstWrong, order_rule, range_rule, table_rule, index_rules, WrongChunk, SameTable, Sound}
+use Rattle.patches.specs.Loads.{BadTable, FirstWrong, range_rule, table_rule, WrongChunk, SameTable, Sound}
 use Rattle.patches.specs.Tables.{Fits}
 use Rattle.patches.specs.declared.table.ChunkOffsets.{ChunkOffsets}
 use Rattle.search_sorted.specs.Packed.{Ascending}

@@ -1,11 +1,11 @@
 -- Chunk data of a narrowed column.
-use Rattle.std.proofs.Common.{◌≡◌, ℕ, zero, suc, ◌+◌, ◌-◌, ◌*◌, ◌/◌, ◌%◌, ◌<◌, ◌≤◌, true, false, ◌⊎◌, Some, None, Option, unwrap_or, sym, refl, ap, ◌∙◌, subst, inl, inr, arith}
+use Rattle.std.proofs.Common.{◌≡◌, ℕ, ◌+◌, ◌-◌, ◌<◌, ◌≤◌, true, Some, None, Option, unwrap_or, sym, refl, ap, ◌∙◌, subst, inl, inr, arith}
 use Rattle.std.proofs.lemmas.Bool.{cases_lt, false≢true}
 use Rattle.search_sorted.specs.declared.packed.Packed.{Packed}
 use Rattle.search_sorted.specs.Packed.{Ascending}
 use Rattle.search_sorted.specs.Numbers.{count, number, got, PartOf}
 use Rattle.patches.specs.declared.table.ChunkOffsets.{ChunkOffsets}
-use Rattle.patches.specs.Chunks.{limit, phase, count_of_chunks, chunk_start}
+use Rattle.patches.specs.Chunks.{phase, count_of_chunks, chunk_start}
 use Rattle.patches.specs.Indices.{count_under, Inside}
 use Rattle.patches.specs.Tables.{has_table, count_of_entries, entry, within}
 use Rattle.patches.specs.Narrows.{first_kept, end_kept, KeptTable, KeepsTable}

@@ -1,13 +1,12 @@
 -- Narrowing a column: what the new column holds of the old.
-use Rattle.std.proofs.Common.{◌≡◌, ℕ, ◌+◌, ◌-◌, ◌<◌, ◌≤◌, true, false, ◌⊎◌, length, take, drop, Some, None, Option, sym, refl, ap, ◌∙◌, subst, inl, inr, arith}
+use Rattle.std.proofs.Common.{◌≡◌, ℕ, ◌+◌, ◌-◌, ◌<◌, ◌≤◌, true, false, length, take, drop, None, Option, sym, refl, ap, ◌∙◌, subst, inl, inr, arith}
 use Rattle.std.proofs.lemmas.Bool.{cases_Bool, false≢true}
 use Rattle.search_sorted.specs.declared.packed.Packed.{Packed}
-use Rattle.search_sorted.specs.Packed.{Ascending}
 use Rattle.search_sorted.specs.Numbers.{count, number, PartOf}
 use Rattle.patches.specs.declared.column.Column.{Column}
 use Rattle.patches.specs.declared.table.ChunkOffsets.{ChunkOffsets}
 use Rattle.patches.specs.Indices.{count_under, Inside, seek}
-use Rattle.patches.specs.Tables.{has_table, count_of_entries, entry, within}
+use Rattle.patches.specs.Tables.{has_table}
 use Rattle.patches.specs.Columns.{patches, index, patch_at}
 use Rattle.patches.specs.Narrows.{KeptTable, KeepsTable, remaining}
 use Rattle.patches.proofs.Unders.{under_split, under_mono, under_le}

@@ -1,12 +1,9 @@
 -- What a looked-up row says of its patch.
-use Rattle.std.proofs.Common.{◌≡◌, ℕ, ◌+◌, ◌-◌, ◌<◌, ◌≤◌, ◌⊎◌, length, get_or, Some, None, Option, sym, refl, ap, ◌∙◌, subst, inl, inr, arith}
+use Rattle.std.proofs.Common.{◌≡◌, ℕ, ◌+◌, ◌<◌, ◌≤◌, get_or, Some, None, sym, ap, ◌∙◌, inl, inr, arith}
 use Rattle.std.proofs.lemmas.Bool.{cases_lt}
 use Rattle.search_sorted.specs.declared.search.SearchResult.{SearchResult}
 use Rattle.search_sorted.specs.declared.search.SearchResult.TheVariants.{Found, NotFound}
-use Rattle.search_sorted.specs.declared.search.SearchSortedSide.TheVariants.{Left}
-use Rattle.search_sorted.specs.Naturals.{natural}
-use Rattle.search_sorted.specs.Packed.{listed}
-use Rattle.search_sorted.specs.Search.{Answers, found_of, place_of}
+use Rattle.search_sorted.specs.Search.{found_of, place_of}
 use Rattle.patches.specs.Indices.{count_under}
 use Rattle.patches.proofs.Unders.{split_under}
 use Rattle.search_sorted.proofs.Lefts.{Split, Finds, finds_from}

@@ -1,11 +1,12 @@
 -- A column by its patches.
-use Rattle.std.specs.Prelude.{◌≡◌, ℕ, ◌+◌, ◌-◌, false, Option}
+use Rattle.std.specs.Prelude.{◌≡◌, ℕ, ◌+◌, ◌-◌, ◌≤◌, false, Option}
 use Rattle.std.proofs.Common.{arith}
 use Rattle.search_sorted.specs.Numbers.{count, number}
 use Rattle.patches.specs.declared.column.Column.{Column}
 use Rattle.patches.specs.Indices.{seek}
 use Rattle.patches.specs.SeekLaws.{seek_past}
 use Rattle.patches.specs.Assignments.{Assignment}
+use Rattle.patches.specs.Chunks.{limit}
 use Rattle.patches.specs.Tables.{has_table}
 
 -- how many patches the column has
@@ -31,11 +32,15 @@ pub record Cleared {V : Type 0} (c : Column V) (rows : ℕ) : Type 0 where
   pub no_patches : patches c ≡ 0
   pub no_chunks : has_table c.chunks ≡ false
 
+-- a column has no more rows than the limit
+pub column_few : {V : Type 0} (c : Column V) → c.rows ≤ limit
+column_few c = omega (arith, c.short)
+
 -- what a column means as a patch set: its rows, each with its patch
 abbrev pub column_meaning : {V : Type 0} → Column V → Assignment V
 column_meaning c = record {
   rows = c.rows;
   patch = patch_at c;
-  few = omega (arith, c.short);
+  few = column_few c;
   past = λ row h. seek_past (index c) c.values.now (patches c) c.offset c.rows row c.paired c.inside h;
 }

@@ -1,5 +1,5 @@
 -- Stored indices and what stands beside them.
-use Rattle.std.specs.Prelude.{◌≡◌, ℕ, zero, suc, ◌+◌, ◌<◌, ◌≤◌, cond, List, [], ◌∷◌, Some, None, Option, ◌==◌, nat_lt}
+use Rattle.std.specs.Prelude.{ℕ, zero, suc, ◌+◌, ◌<◌, ◌≤◌, cond, List, [], ◌∷◌, Some, None, Option, ◌==◌, nat_lt}
 
 -- how many of the first n indices are below x
 abbrev pub count_under : (ℕ → ℕ) → ℕ → ℕ → ℕ

@@ -1,5 +1,5 @@
 -- What loading asks of a file, and what the column then holds.
-use Rattle.std.specs.Prelude.{◌≡◌, ℕ, ◌+◌, ◌-◌, ◌*◌, ◌/◌, ◌%◌, ◌<◌, ◌≤◌, true, ◌⊎◌, List, [], ◌∷◌, ◌++◌, length, Some, None, Ok, Err, Option, Result, ◌≢◌}
+use Rattle.std.specs.Prelude.{◌≡◌, ℕ, ◌+◌, ◌-◌, ◌*◌, ◌/◌, ◌%◌, ◌<◌, ◌≤◌, ◌⊎◌, List, [], ◌∷◌, ◌++◌, length, Some, None, Ok, Err, Option, Result, ◌≢◌}
 use Rattle.search_sorted.specs.declared.width.Width.{Width}
 use Rattle.search_sorted.specs.declared.packed.Packed.{Packed}
 use Rattle.search_sorted.specs.Packed.{size, number_at}

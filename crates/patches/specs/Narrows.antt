@@ -1,5 +1,5 @@
 -- Narrowing a column to the rows from a up to b.
-use Rattle.std.specs.Prelude.{◌≡◌, ℕ, ◌+◌, ◌-◌, ◌*◌, ◌/◌, ◌<◌, ◌≤◌, Bool, true, false, cond, ◌⊎◌, List, [], ◌∷◌, Some, None, Ok, Err, Option, Result, ◌==◌}
+use Rattle.std.specs.Prelude.{◌≡◌, ℕ, ◌+◌, ◌-◌, ◌/◌, ◌<◌, true, false, cond, ◌⊎◌, List, [], ◌∷◌, Some, None, Ok, Err, Option, Result, ◌==◌}
 use Rattle.patches.specs.declared.column.Column.{Column}
 use Rattle.patches.specs.declared.refusal.Refusal.{Refusal}
 use Rattle.patches.specs.declared.refusal.Reason.TheVariants.{RowRange}

@@ -1,8 +1,9 @@
 -- The rows from a up to b of a patch set, as a patch set.
-use Rattle.std.specs.Prelude.{◌≡◌, ℕ, ◌+◌, ◌-◌, ◌≤◌, min, cond, None, nat_lt}
+use Rattle.std.specs.Prelude.{ℕ, ◌+◌, ◌-◌, ◌≤◌, min, cond, None, nat_lt}
 use Rattle.std.proofs.Common.{arith}
 use Rattle.std.proofs.lemmas.Bool.{cond-false, le-ltb}
 use Rattle.patches.specs.Assignments.{Patch, Assignment}
+use Rattle.patches.specs.Chunks.{limit}
 
 -- the ends after they are lowered: b to the rows, and then a to b
 abbrev pub end_in : ℕ → ℕ → ℕ
@@ -26,11 +27,15 @@ narrowed_end rows first end b = start_in first end rows + end_in b (span_in firs
 abbrev pub part_of : {V : Type 0} → (ℕ → Patch V) → ℕ → ℕ → ℕ → Patch V
 part_of patch first n r = cond (nat_lt r n) (patch (first + r)) None
 
+-- a part of a set's rows is no more than the limit
+pub span_few : (a b rows : ℕ) → rows ≤ limit → span_in a b rows ≤ limit
+span_few a b rows few = omega (arith, few)
+
 -- The rows from a up to b of an assignment: row k is its row a + k.
 abbrev pub windowed : {V : Type 0} → Assignment V → ℕ → ℕ → Assignment V
 windowed m a b = record {
   rows = span_in a b m.rows;
   patch = part_of m.patch (start_in a b m.rows) (span_in a b m.rows);
-  few = omega (arith, m.few);
+  few = span_few a b m.rows m.few;
   past = λ r h. cond-false (nat_lt r (span_in a b m.rows)) (m.patch (start_in a b m.rows + r)) None (le-ltb r (span_in a b m.rows) h);
 }

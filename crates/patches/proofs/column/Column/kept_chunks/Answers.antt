@@ -1,4 +1,4 @@
-use Rattle.std.proofs.Common.{◌≡◌, ℕ, ◌+◌, ◌<◌, ◌≤◌, unwrap_or, ap, ◌∙◌, arith}
+use Rattle.std.proofs.Common.{ℕ, ◌+◌, unwrap_or, ap, ◌∙◌, arith}
 use Rattle.search_sorted.specs.Numbers.{count, number}
 use Rattle.patches.proofs.Unders.{under_le}
 use Rattle.patches.proofs.Entries.{own_low}

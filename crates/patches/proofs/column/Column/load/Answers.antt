@@ -1,4 +1,4 @@
-use Rattle.std.proofs.Common.{◌≡◌, ℕ, ◌+◌, ◌/◌, ◌<◌, ◌≤◌, true, [], ◌∷◌, length, sym, refl, ap, ◌∙◌, arith}
+use Rattle.std.proofs.Common.{◌≡◌, ◌/◌, ◌≤◌, length, sym, refl, ap, ◌∙◌, arith}
 use Rattle.std.proofs.lemmas.Result.{err_from_is_err_and}
 use Rattle.search_sorted.specs.Packed.{size}
 use Rattle.search_sorted.specs.Numbers.{count, number}
@@ -44,28 +44,16 @@ invariant_of-self g c =
     let sound = c.in_ok-chunks.ensures.holds in
     let short = shape_short f.width bytes _ f.rows f.offset kept in
     let counts : count idx.numbers ≡ length bytes / f.width = ap count sound.numbers ∙ file_count p bytes f.width c.new-numbers.ensures.bytes wide in
-    let few : count idx.numbers ≤ f.rows = count_rows (number idx.numbers) (count idx.numbers) f.offset f.rows idx.up sound.inside in (
-      short,
-      (
-        shape_values f.width bytes _ f.rows f.offset kept ∙ sym counts,
-        (
-          sound.inside,
-          (
-            (λ e. omega (arith, counts, shape_some f.width bytes _ f.rows f.offset kept)),
-            (
-              sound.fits.tabled,
-              (
-                sound.fits.near,
-                (
-                  omega (arith, sound.fits.base, sound.fits.near, few, short),
-                  (sound.fits.counted, tt),
-                ),
-              ),
-            ),
-          ),
-        ),
-      ),
-    )
+    let few : count idx.numbers ≤ f.rows = count_rows (number idx.numbers) (count idx.numbers) f.offset f.rows idx.up sound.inside in record {
+      short = short;
+      paired = shape_values f.width bytes _ f.rows f.offset kept ∙ sym counts;
+      inside = sound.inside;
+      some = λ e. omega (arith, counts, shape_some f.width bytes _ f.rows f.offset kept);
+      tabled = sound.fits.tabled;
+      near = sound.fits.near;
+      low = omega (arith, sound.fits.base, sound.fits.near, few, short);
+      counted = sound.fits.counted;
+    }
 
 pub returns : goal.returns
 returns g c =

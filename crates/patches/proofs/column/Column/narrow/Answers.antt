@@ -1,5 +1,4 @@
-use Rattle.std.proofs.Common.{◌≡◌, ℕ, ◌+◌, ◌-◌, ◌<◌, ◌≤◌, sym, refl, ap, ◌∙◌, inl, inr, arith}
-use Rattle.search_sorted.specs.Numbers.{count, number}
+use Rattle.std.proofs.Common.{◌≡◌, ◌<◌, refl, ap, ◌∙◌, inl, inr, arith}
 use Rattle.patches.specs.Tables.{has_table}
 use Rattle.patches.proofs.Narrowing.{Info, info_some, info_none, order, top, part_inside, part_paired, part_good, part_patched, part_counted, part_left, table_gone, table_stays}
 use Rattle.patches.proofs.column.Column.narrow.Goals as goal
@@ -32,16 +31,16 @@ invariant_of-self g c =
       | then-from-to w ↦ info_some s.chunks u _ s.offset a b from to w.chunks-is w.if-from-to.true w.kept_chunks-chunks.ensures
       | else-from-to w ↦ info_none s.chunks u s.offset a b from to w.chunks-is
     ] in
-    let good = part_good s a b from to c.if-a-b.false c.if-b-self.false c.place_of_row-from.ensures c.place_of_row-to.ensures q c.part-indices.ensures u info in (
-      omega (arith, s.short),
-      (
-        part_paired s a b from to c.if-a-b.false c.if-b-self.false c.place_of_row-from.ensures c.place_of_row-to.ensures q c.part-indices.ensures,
-        (
-          part_inside s a b from to c.if-a-b.false c.if-b-self.false c.place_of_row-from.ensures c.place_of_row-to.ensures q c.part-indices.ensures,
-          (good.some, (good.tabled, (good.near, (good.low, (good.counted, tt))))),
-        ),
-      ),
-    )
+    let good = part_good s a b from to c.if-a-b.false c.if-b-self.false c.place_of_row-from.ensures c.place_of_row-to.ensures q c.part-indices.ensures u info in record {
+      short = omega (arith, s.short);
+      paired = part_paired s a b from to c.if-a-b.false c.if-b-self.false c.place_of_row-from.ensures c.place_of_row-to.ensures q c.part-indices.ensures;
+      inside = part_inside s a b from to c.if-a-b.false c.if-b-self.false c.place_of_row-from.ensures c.place_of_row-to.ensures q c.part-indices.ensures;
+      some = good.some;
+      tabled = good.tabled;
+      near = good.near;
+      low = good.low;
+      counted = good.counted;
+    }
 
 pub returns : goal.returns
 returns g c =

@@ -1,4 +1,4 @@
-use Rattle.std.proofs.Common.{◌≡◌, ℕ, ◌+◌, ◌-◌, ◌<◌, ◌≤◌, unwrap_or, sym, ap, ◌∙◌, arith}
+use Rattle.std.proofs.Common.{ℕ, unwrap_or, sym, ap, ◌∙◌, arith}
 use Rattle.search_sorted.specs.Numbers.{count, number}
 use Rattle.patches.proofs.Entries.{got_some, got_none, under_first, under_last, own_count, own_first, own_entry}
 use Rattle.patches.proofs.column.Column.place_of_chunk.Goals as goal

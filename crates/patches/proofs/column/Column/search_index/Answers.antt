@@ -1,4 +1,4 @@
-use Rattle.std.proofs.Common.{◌≡◌, ℕ, ◌+◌, ◌-◌, ◌<◌, ◌≤◌, sym, refl, ap, ◌∙◌, subst, arith}
+use Rattle.std.proofs.Common.{◌+◌, ◌≤◌, refl, arith}
 use Rattle.search_sorted.specs.Search.{place_of}
 use Rattle.search_sorted.specs.Listed.{length_listed}
 use Rattle.search_sorted.specs.Numbers.{count, number}

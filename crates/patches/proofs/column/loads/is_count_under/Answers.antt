@@ -1,4 +1,4 @@
-use Rattle.std.proofs.Common.{◌≡◌, ℕ, ◌+◌, ◌<◌, ◌≤◌, Bool, true, false, Decides, sym, subst, arith}
+use Rattle.std.proofs.Common.{◌≡◌, ℕ, Bool, false, Decides, sym, subst, arith}
 use Rattle.search_sorted.specs.declared.packed.Packed.{Packed}
 use Rattle.search_sorted.specs.Packed.{Ascending}
 use Rattle.search_sorted.specs.Numbers.{count, number}

@@ -1,4 +1,4 @@
-use Rattle.std.proofs.Common.{◌≡◌, ℕ, ◌<◌, [], ◌∷◌}
+use Rattle.std.proofs.Common.{ℕ, [], ◌∷◌}
 use Rattle.search_sorted.specs.Numbers.{count, number}
 use Rattle.patches.specs.declared.refusal.Part.TheVariants.{Column}
 use Rattle.patches.specs.Indices.{Inside}

@@ -1,6 +1,6 @@
-use Rattle.std.proofs.Common.{◌≡◌, ℕ, ◌+◌, ◌-◌, ◌≤◌, min, sym, ap, ◌∙◌, arith}
+use Rattle.std.proofs.Common.{◌≡◌, ℕ, ◌+◌, min, ap, ◌∙◌, arith}
 use Rattle.patches.specs.Assignments.{patches_below}
-use Rattle.patches.specs.Windows.{start_in, span_in, part_of}
+use Rattle.patches.specs.Windows.{start_in, span_in}
 use Rattle.patches.proofs.Counts.{count_part}
 use Rattle.patches.proofs.window.WindowPatchSet.below.Goals as goal
 
