@@ -1,7 +1,6 @@
 -- Steps of the walks over cells and over patches. Assumes nothing.
-use Rattle.std.proofs.Common.{◌≡◌, ℕ, ◌+◌, ◌<◌, ◌≤◌, Bool, true, false, cond, ◌≢◌, List, length, get_or, set, ℤ, pos, Some, None, Option, sym, refl, ap, ◌∙◌, subst, arith, get_or-set_other, get_or-set_same, below_more}
-use Rattle.month_job.specs.declared.correct.Answer.{Answer}
-use Rattle.month_job.specs.declared.correct.Answer.TheVariants.{NoSuchRow, NotCorrected, Corrected}
+use Rattle.std.proofs.Common.{◌≡◌, ℕ, ◌+◌, ◌<◌, ◌≤◌, Bool, true, false, cond, ◌≢◌, List, length, get_or, set, ℤ, pos, Some, None, Option, refl, arith, get_or-set_other, get_or-set_same, below_more}
+use Rattle.month_job.specs.declared.correct.Answer.TheVariants.{NoSuchRow, Corrected}
 use Rattle.month_job.specs.Corrected.{told}
 
 module _ (after : ℕ → ℤ → ℤ) (old new : List ℤ) (i : ℕ) (v : ℤ) (in-range : i < length new) where

@@ -1,28 +1,30 @@
 use search_sorted::{SearchResult, SearchSortedSide};
+use std::alloc::Global;
+use std::process::Abort;
 use std::test::*;
 
 // An answer is written as this text.
-fn answer_is(rt: HostRuntime, answer: SearchResult, text: &str) -> Result<(), Fail> {
-    assert_eq!(format!(in rt.alloc(); "{answer}")?.as_str(), text);
+fn answer_is(rt: &impl Abort, heap: Global, answer: SearchResult, text: &str) -> Result<(), Fail> {
+    assert_eq!(rt; format!(in heap; "{answer}")?.as_str(), text);
     Ok(())
 }
 
 // A side is written as this text.
-fn side_is(rt: HostRuntime, side: SearchSortedSide, text: &str) -> Result<(), Fail> {
-    assert_eq!(format!(in rt.alloc(); "{side}")?.as_str(), text);
+fn side_is(rt: &impl Abort, heap: Global, side: SearchSortedSide, text: &str) -> Result<(), Fail> {
+    assert_eq!(rt; format!(in heap; "{side}")?.as_str(), text);
     Ok(())
 }
 
 #[test]
 fn answers_as_text(rt: HostRuntime) -> Result<(), Fail> {
-    answer_is(rt, SearchResult::Found(120), "Found(120)")?;
-    answer_is(rt, SearchResult::NotFound(0), "NotFound(0)")
+    answer_is(&rt, rt.alloc(), SearchResult::Found(120), "Found(120)")?;
+    answer_is(&rt, rt.alloc(), SearchResult::NotFound(0), "NotFound(0)")
 }
 
 #[test]
 fn sides_as_text(rt: HostRuntime) -> Result<(), Fail> {
-    side_is(rt, SearchSortedSide::Left, "left")?;
-    side_is(rt, SearchSortedSide::Right, "right")
+    side_is(&rt, rt.alloc(), SearchSortedSide::Left, "left")?;
+    side_is(&rt, rt.alloc(), SearchSortedSide::Right, "right")
 }
 
 #[test]

@@ -1,4 +1,4 @@
-use Rattle.std.proofs.Common.{◌≡◌, ◌+◌, ◌<◌, length, get_or, ℤ, pos, ◌∙◌, arith, w64, SFits, to_z, of_z, rules}
+use Rattle.std.proofs.Common.{◌≡◌, ◌+◌, ◌<◌, length, get_or, ℤ, pos, arith, w64, SFits, to_z, of_z, rules}
 use borrow.Author.Rules.{sfits_of}
 use Rattle.std.proofs.lemmas.Int.{to_z-of_z}
 use Rattle.month_job.specs.Corrected.{amount_after}
@@ -14,9 +14,9 @@ loop-cell-preserved c =
     let same : get_or c.loop-cell.cells i (pos 0) ≡ old = c.loop-cell.invariant.2 i (omega arith) in
     let kept : SFits w64 (get_or c.loop-cell.cells i (pos 0)) = search rules in
     let plain = to_z-of_z w64 (get_or c.loop-cell.cells i (pos 0)) kept in
-    let result_fits : SFits w64 c.unwrap-or.result = sfits_of c.unwrap-or.type_inv in
-    let written = to_z-of_z w64 c.unwrap-or.result result_fits in
-    let here : to_z w64 (of_z w64 c.unwrap-or.result) ≡ amount_after c.args.column.now (c.args.first + i) old = cc in (
+    let result_fits : SFits w64 c.unwrap_or.result = sfits_of c.unwrap_or.type_inv in
+    let written = to_z-of_z w64 c.unwrap_or.result result_fits in
+    let here : to_z w64 (of_z w64 c.unwrap_or.result) ≡ amount_after c.args.column.now (c.args.first + i) old = cc in (
       omega arith,
       below_set (λ k x. amount_after c.args.column.now (c.args.first + k) x) c.args.cells.now c.loop-cell.cells i _ lt c.loop-cell.invariant.1 here,
       above_set (λ k x. x) c.args.cells.now c.loop-cell.cells i _ lt c.loop-cell.invariant.2,

@@ -1,4 +1,4 @@
-use Rattle.std.proofs.Common.{◌≡◌, ◌<◌, ltb, length, get_or, pos, vec_items, sym, refl, ap, ◌∙◌, subst, arith, w64, SFits, rules, below_more, ltb-true}
+use Rattle.std.proofs.Common.{◌≡◌, ◌<◌, ltb, length, get_or, pos, vec_items, sym, refl, subst, arith, w64, SFits, rules, below_more, ltb-true}
 use Rattle.std.proofs.lemmas.Int.{to_z-of_z}
 use Rattle.patches.specs.Columns.{patch_at, patches, row_at}
 use Rattle.month_job.specs.declared.correct.Correction.{Correction}
@@ -8,7 +8,7 @@ use Rattle.month_job.proofs.correct.corrections.Goals as goal
 
 pub loop-row-preserved : goal.loop-row-preserved
 loop-row-preserved c =
-    let places = c.in-ok-push.ensures.by_index in
+    let places = c.in_ok-push.ensures.by_index in
     let long = c.loop-row.invariant.0 in
     let back = told_back (patch_at c.args.column.now c.in-Some.row) (ltb c.in-Some.row (length c.args.cells.now)) (get_or c.args.cells.now c.in-Some.row (pos 0)) c.in-Corrected.before c.in-Corrected.after c.in-Corrected.ensures in
     let found = got_back (ltb c.loop-row.place (patches c.args.column.now)) c.in-Some.row (row_at c.args.column.now c.loop-row.place) c.in-Some.ensures in

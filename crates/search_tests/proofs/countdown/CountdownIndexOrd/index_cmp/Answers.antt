@@ -1,6 +1,6 @@
 use Rattle.std.proofs.Common.{◌<◌, ◌≤◌, length, Some, sym, ap, ◌∙◌, arith}
 use Rattle.search_sorted.specs.Listed.{length_listed, get_d_listed}
-use Rattle.search_sorted.specs.Naturals.{natural, rank_is}
+use Rattle.search_sorted.specs.Naturals.{natural}
 use Rattle.search_sorted.specs.Packed.{listed}
 use Rattle.search_sorted.proofs.Orders.{compare_within, compare_past}
 use Rattle.search_tests.specs.Countdowns.{below, downward}
@@ -14,7 +14,7 @@ returns-then-place-self c =
     let within : place < length (listed (below top) top) = omega (arith, length_listed (below top) top) in
     sym (compare_within downward (listed (below top) top) place needle 0 within
     ∙ ap (λ key. Some (natural.compare needle key)) (get_d_listed (below top) top place 0 (omega arith))
-    ∙ ap Some (rank_is needle (below top place) c.cmp.result c.cmp.ensures))
+    ∙ ap Some (sym c.cmp.ensures))
 
 pub returns-else-place-self : goal.returns-else-place-self
 returns-else-place-self c =
