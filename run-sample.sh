@@ -2,10 +2,17 @@
 # Proves and builds month_end, and runs the sample job in a folder of its own.
 set -eu
 cd "$(dirname "$0")"
-rt check month_end
-program="$PWD/target/bin/month_end"
+crate="$PWD/crates/month_end"
 folder="$(mktemp -d)"
-cp crates/month_end/data/* "$folder"
+cp "$crate"/data/* "$folder"
+program="$crate/out/month_end"
+# with no arguments the program only says how it is used: this proves and builds it
+(cd "$crate" && rt run -- --help) >"$folder/build.log" 2>&1 || true
+if [ ! -x "$program" ]; then
+    cat "$folder/build.log"
+    exit 1
+fi
+rm "$folder/build.log"
 cd "$folder"
 "$program" month.job "$@"
 echo

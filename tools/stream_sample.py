@@ -1,5 +1,5 @@
 #!/usr/bin/env python3
-"""Makes the sample job of month_end, and works out what the program must print.
+"""Makes the sample job of month_stream, and works out what the program must print.
 
 Everything is computed by fixed rules, with no random numbers: each run writes the same files.
 The expected text comes from the sample's own rows and amounts, by plain arithmetic, and not from the program.
@@ -8,7 +8,7 @@ import os
 import struct
 
 HERE = os.path.dirname(os.path.abspath(__file__))
-CRATE = os.path.join(HERE, "..", "crates", "month_end")
+CRATE = os.path.join(HERE, "..", "crates", "month_stream")
 DATA = os.path.join(CRATE, "data")
 
 ROWS = 5000
