@@ -1,5 +1,6 @@
 #!/usr/bin/env bash
-# Demands that the check refuses each program under misuse/ with its message, and proves the mended one.
+# Demands that the check refuses each program under misuse/ with its message, and proves the mended one. It works in a
+# throwaway repository outside the checkout, and leaves nothing behind.
 set -eu
 here="$(cd "$(dirname "$0")" && pwd)"
 root="$(dirname "$here")"
@@ -7,10 +8,12 @@ work="$(mktemp -d)"
 trap 'rm -rf "$work"' EXIT
 libraries="search_sorted patches runs"
 
-mkdir "$work/crates"
+# The libraries: sources, definitions and proofs; not their must-fail edits, nor what a check left in out/.
 for crate in $libraries; do
-    cp -r "$root/crates/$crate" "$work/crates/$crate"
-    rm -rf "$work/crates/$crate/must-fail"
+    mkdir -p "$work/crates/$crate"
+    for part in src specs proofs; do
+        cp -r "$root/crates/$crate/$part" "$work/crates/$crate/$part"
+    done
     grep "^$crate:" "$root/crates.txt" >>"$work/crates.txt"
 done
 
@@ -21,24 +24,22 @@ lay() {
     echo "$1: runs patches search_sorted" >>"$work/crates.txt"
 }
 
-cd "$work"
-mended=""
-for folder in "$here"/*/; do
-    name="$(basename "$folder")_mended"
-    lay "$name" "$folder/mended.txt"
-    mended="$mended $name"
-done
-# shellcheck disable=SC2086
-if ! rt check $mended >"$work/log" 2>&1; then
-    cat "$work/log"
-    echo "misuse: a mended program is not proved"
-    exit 1
-fi
+# Checks a program crate, after the libraries below it. What it says is in the log.
+check() {
+    (cd "$work/crates/$1" && rt check) >"$work/log" 2>&1
+}
+
 for folder in "$here"/*/; do
     name="$(basename "$folder")"
+    lay "${name}_mended" "$folder/mended.txt"
+    if ! check "${name}_mended" || ! grep -q '^logic=proved' "$work/log"; then
+        cat "$work/log"
+        echo "misuse: $name mended: NOT proved"
+        exit 1
+    fi
     echo "misuse: $name mended: proved"
     lay "$name" "$folder/program.txt"
-    if rt check "$name" >"$work/log" 2>&1; then
+    if check "$name"; then
         echo "misuse: $name was NOT refused"
         exit 1
     fi

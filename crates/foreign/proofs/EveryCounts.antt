@@ -1,9 +1,9 @@
 -- How many rows below one leave the first row, and which is the next.
-use Rattle.std.proofs.Common.{◌≡◌, ℕ, zero, suc, ◌+◌, ◌-◌, ◌*◌, ◌/◌, ◌%◌, ◌<◌, ◌≤◌, min, true, cond, eqb, ltb, ◌⊎◌, is_some, Some, None, sym, refl, ap, ◌∙◌, inl, inr, mod-lt, arith}
+use Rattle.std.proofs.Common.{◌≡◌, ℕ, zero, suc, ◌+◌, ◌-◌, ◌%◌, ◌<◌, ◌≤◌, min, cond, eqb, ltb, is_some, Some, None, sym, ap, ◌∙◌, inl, inr, mod-lt, arith}
 use native.Mathlib.Nat.{zero-mod, zero-div}
 use Rattle.std.proofs.lemmas.Bool.{cases_lt, cases_eq, cond-true, cond-false, lt-ltb, le-ltb, eq-eqb, ne_eqb}
 use Rattle.std.proofs.lemmas.Bool.Decides.{nat_tests}
-use Rattle.patches.specs.Assignments.{one, patches_below, Next, NoneFrom}
+use Rattle.patches.specs.Assignments.{one, patches_below, Next}
 use Rattle.patches.proofs.Counts.{count_past, count_same}
 use Rattle.foreign.specs.Everies.{every_at, every_in, count_to, gap_from}
 use Rattle.foreign.specs.Marks.{mark_of}

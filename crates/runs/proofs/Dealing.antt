@@ -1,8 +1,8 @@
 -- Attempts made one after another, with cells that are dealt out from the first on.
-use Rattle.std.proofs.Common.{◌≡◌, ℕ, zero, suc, ◌+◌, ◌-◌, ◌<◌, ◌≤◌, min, ◌⊎◌, List, [], ◌∷◌, ◌++◌, map, length, get_or, take, drop, set, sym, refl, ap, ◌∙◌, subst, inl, inr, arith, length-drop, length-set}
+use Rattle.std.proofs.Common.{◌≡◌, ℕ, zero, suc, ◌+◌, ◌-◌, ◌<◌, ◌≤◌, min, List, [], ◌∷◌, ◌++◌, map, length, get_or, take, drop, set, sym, refl, ap, ◌∙◌, subst, inl, inr, arith, length-drop, length-set}
 use borrow.Rule.Slice.PartMut.{put_mid}
 use Rattle.std.proofs.lemmas.Bool.{cases_lt}
-use Rattle.std.proofs.lemmas.List.{append-nil, append_assoc, take_all, drop_all, drop-drop, take_more_set, map-set, set-get_or, take-take, drop-take}
+use Rattle.std.proofs.lemmas.List.{take_all, drop_all, drop-drop, take_more_set, map-set, set-get_or, take-take, drop-take}
 use Rattle.std.proofs.lemmas.Slice.{take-put_mid_below, drop-put_mid, between-put_mid}
 use Rattle.patches.specs.Assignments.{Assignment}
 use Rattle.runs.specs.declared.attempts.Attempt.{Attempt}
@@ -10,7 +10,7 @@ use Rattle.runs.specs.declared.attempts.Outcome.{Outcome}
 use Rattle.runs.specs.declared.attempts.Entry.{Entry}
 use Rattle.runs.specs.declared.attempts.Run.{Run}
 use Rattle.runs.specs.declared.attempts.Run.TheVariants.{Unopened}
-use Rattle.runs.specs.Events.{Event, cells_of, cells_in, attempt_of, event_of, events_of}
+use Rattle.runs.specs.Events.{cells_of, cells_in, attempt_of, event_of, events_of}
 use Rattle.runs.specs.Attempts.{AllRight, Stands, Leads}
 use Rattle.runs.proofs.Leading.{leads_then, leads_nothing, every_list_lem}
 

@@ -1,5 +1,5 @@
 -- What each attempt makes of a run.
-use Rattle.std.proofs.Common.{◌≡◌, ℕ, ◌+◌, ◌-◌, ◌%◌, ◌<◌, ◌≤◌, min, cond, eqb, ltb, ◌⊎◌, List, [], ◌∷◌, ◌++◌, length, Some, None, Ok, Err, Option, Result, sym, refl, ap, ◌∙◌, subst, inl, inr, arith, length-append}
+use Rattle.std.proofs.Common.{◌≡◌, ℕ, ◌+◌, ◌-◌, ◌%◌, ◌<◌, ◌≤◌, min, eqb, ltb, List, [], ◌∷◌, ◌++◌, length, Some, None, Ok, Err, Option, Result, sym, refl, ap, ◌∙◌, subst, inl, inr, arith, length-append}
 use Rattle.std.proofs.lemmas.Bool.{cases_lt, cases_eq, cond-true, cond-false, eq-eqb, ne_eqb, lt-ltb}
 use Rattle.std.proofs.lemmas.List.{append_assoc, append-nil}
 use Rattle.std.proofs.lemmas.Bool.Decides.{nat_tests}
@@ -7,8 +7,8 @@ use Rattle.patches.specs.declared.refusal.Refusal.{Refusal}
 use Rattle.patches.specs.declared.refusal.Part.TheVariants.{Run as RunPart}
 use Rattle.patches.specs.Refusals.{AllKept, NamesFirst, Judged}
 use Rattle.patches.specs.Chunks.{count_of_chunks, first_row_of, end_row_of}
-use Rattle.patches.specs.Windows.{windowed, part_of, start_in, span_in}
-use Rattle.patches.specs.Assignments.{Patch, Assignment, SameAssignment, patches_below}
+use Rattle.patches.specs.Windows.{windowed, start_in, span_in}
+use Rattle.patches.specs.Assignments.{Assignment, SameAssignment, patches_below}
 use Rattle.patches.proofs.Counts.{count_same}
 use Rattle.runs.specs.declared.run.OpenRun.{OpenRun}
 use Rattle.runs.specs.declared.run.ClosedRun.{ClosedRun}
@@ -18,9 +18,9 @@ use Rattle.runs.specs.declared.attempts.Outcome.{Outcome}
 use Rattle.runs.specs.declared.attempts.Outcome.TheVariants.{NotMade, Accepted, Refused}
 use Rattle.runs.specs.declared.attempts.Run.{Run}
 use Rattle.runs.specs.declared.attempts.Run.TheVariants.{Unopened, Open, Closed, Abandoned}
-use Rattle.runs.specs.Steps.{open_rules, step_rules, close_rules, Replaced, Begun, Advanced, Stepped, Finished}
+use Rattle.runs.specs.Steps.{open_rules, step_rules, close_rules, Replaced, Begun, Advanced, Stepped}
 use Rattle.runs.specs.Events.{Event, event_of, opened, stepped, closed, abandoned, Opening, or_else, opening_in, open_after, steps_in, ends_in, handed_in, back_in}
-use Rattle.runs.specs.Attempts.{Answered, RightOpening, RightStep, RightCells, RightClosing, RightAbandoning, Right, AllRight, OpenedFor, WentThrough, NotOpened, Underway, WasClosed, WasAbandoned, Stands, Leads, LeadsAside}
+use Rattle.runs.specs.Attempts.{Answered, RightOpening, RightStep, RightCells, RightClosing, RightAbandoning, Right, AllRight, OpenedFor, WentThrough, NotOpened, Stands, Leads, LeadsAside}
 use Rattle.runs.proofs.Joins.{replaced_none, replaced_join, replaced_same}
 use Rattle.runs.proofs.Pasts.{Idle, opening_push, steps_push, ends_push, handed_push, back_push, opening_stays, opening_idle, steps_idle, ends_idle, handed_idle, back_idle}
 

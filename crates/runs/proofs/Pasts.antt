@@ -1,7 +1,7 @@
 -- What one more event adds to the past.
-use Rattle.std.proofs.Common.{◌≡◌, ℕ, ◌+◌, List, [], ◌∷◌, ◌++◌, Some, None, Option, sym, refl, ap, ◌∙◌, arith}
+use Rattle.std.proofs.Common.{◌≡◌, ◌+◌, List, [], ◌∷◌, ◌++◌, Some, None, Option, sym, refl, ap, ◌∙◌, arith}
 use Rattle.std.specs.List.{flat_map}
-use Rattle.std.proofs.lemmas.List.{flat_map_more, append_assoc, append-nil}
+use Rattle.std.proofs.lemmas.List.{flat_map_more, append-nil}
 use Rattle.runs.specs.Events.{Event, opening_of, opening_in, or_else, Opening, step_of, steps_in, end_of, ends_in, handed_of, handed_in, back_of, back_in}
 
 else_none : {A : Type 0} (a : Option A) → or_else a None ≡ a

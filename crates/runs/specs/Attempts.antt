@@ -1,5 +1,5 @@
 -- Every list of attempts with one run: which are made, accepted or refused, and what the run has then done.
-use Rattle.std.specs.Prelude.{◌≡◌, ℕ, ◌+◌, ◌%◌, ◌<◌, ◌≤◌, min, List, [], ◌∷◌, ◌++◌, length, Some, None, Option}
+use Rattle.std.specs.Prelude.{◌≡◌, ℕ, ◌%◌, ◌<◌, ◌≤◌, min, List, [], ◌∷◌, ◌++◌, length, Some, None, Option}
 use Rattle.patches.specs.declared.refusal.Part.TheVariants.{Run as RunPart}
 use Rattle.patches.specs.Refusals.{Rule, AllKept, NamesFirst}
 use Rattle.patches.specs.Chunks.{first_row_of}

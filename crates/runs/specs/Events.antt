@@ -1,5 +1,5 @@
 -- What was attempted with a run, and what came of it.
-use Rattle.std.specs.Prelude.{◌≡◌, ℕ, ◌+◌, cond, List, [], ◌∷◌, ◌++◌, take, drop, Some, None, Option, ◌==◌}
+use Rattle.std.specs.Prelude.{ℕ, ◌+◌, cond, List, [], ◌∷◌, take, drop, Some, None, Option, ◌==◌}
 use Rattle.std.specs.List.{flat_map}
 use Rattle.runs.specs.declared.attempts.Attempt.{Attempt}
 use Rattle.runs.specs.declared.attempts.Attempt.TheVariants.{Open, Step, Close, Abandon}

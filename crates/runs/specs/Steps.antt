@@ -1,12 +1,12 @@
 -- A correction run: what opening, a step and closing ask, and what they do.
-use Rattle.std.specs.Prelude.{◌≡◌, ℕ, ◌+◌, ◌-◌, ◌%◌, ◌<◌, ◌≤◌, List, [], ◌∷◌, length, Ok, Err, Result, ◌≢◌}
+use Rattle.std.specs.Prelude.{◌≡◌, ℕ, ◌+◌, ◌-◌, ◌%◌, ◌<◌, List, [], ◌∷◌, length, Ok, Err, Result, ◌≢◌}
 use Rattle.patches.specs.declared.refusal.Refusal.{Refusal}
 use Rattle.patches.specs.declared.refusal.Reason.TheVariants.{RowLimit, CellCount, SetRows, ChunksLeft}
 use Rattle.patches.specs.declared.refusal.Part.TheVariants.{Run as RunPart}
 use Rattle.patches.specs.Refusals.{Rule, rule, AllKept, NamesFirst}
 use Rattle.patches.specs.Chunks.{limit, count_of_chunks, chunk_rule, first_row_of, end_row_of}
 use Rattle.patches.specs.Cells.{Corrected}
-use Rattle.patches.specs.Assignments.{Patch, Assignment, patches_below}
+use Rattle.patches.specs.Assignments.{Patch, patches_below}
 use Rattle.runs.specs.declared.run.OpenRun.{OpenRun}
 use Rattle.runs.specs.declared.run.ClosedRun.{ClosedRun}
 use Rattle.runs.specs.declared.run.steps.Unfinished.{Unfinished}

@@ -1,8 +1,8 @@
 -- The worked lane cases, of which each follows from what a column that holds Q is known to have.
-use Rattle.std.proofs.Common.{ℕ, List, [], ◌∷◌}
+use Rattle.std.proofs.Common.{[], ◌∷◌}
 use Rattle.patches.specs.Columns.{column_meaning}
 use Rattle.lanes.proofs.LaneUnique.{tables_same}
-use Rattle.worked_lanes.specs.LaneCases.{HoldsQ, WorkedLaneCases}
+use Rattle.worked_lanes.specs.LaneCases.{WorkedLaneCases}
 use Rattle.worked_lanes.proofs.Laned.{tables_of_q}
 
 pub worked_lane_cases : WorkedLaneCases

@@ -1,4 +1,4 @@
-use Rattle.std.proofs.Common.{[], ◌∷◌, sym, subst}
+use Rattle.std.proofs.Common.{sym, subst}
 use Rattle.runs.specs.declared.attempts.Run.TheVariants.{Unopened, Open}
 use Rattle.runs.specs.declared.attempts.Outcome.TheVariants.{Accepted, Refused}
 use Rattle.runs.specs.Attempts.{LeadsAside}
@@ -17,5 +17,5 @@ returns-in-Err g c =
     let m = g.S.PatchSet.meaning c.args.set.now in
     subst (λ a. LeadsAside m Unopened a (Refused c.in-Err.refusal) Unopened) (sym c.in-Open.is) (λ cells. lead_not_opened m c.in-Open.rows c.in-Open.phase c.in-Err.refusal h.judged)
 
-pub returns-in-default : goal.returns-in-default
-returns-in-default g c = unopened_aside (g.S.PatchSet.meaning c.args.set.now) c.args.attempt c.in-default.not-Open
+pub returns-in_default : goal.returns-in_default
+returns-in_default g c = unopened_aside (g.S.PatchSet.meaning c.args.set.now) c.args.attempt c.in_default.not-Open

@@ -1,4 +1,4 @@
-use Rattle.std.proofs.Common.{◌≡◌, ℕ, ◌+◌, ◌%◌, ◌<◌, ◌≤◌, Some, sym, ap, subst, arith}
+use Rattle.std.proofs.Common.{◌≡◌, ℕ, ◌+◌, ◌%◌, Some, sym, subst, arith}
 use Rattle.patches.specs.Assignments.{Next}
 use Rattle.foreign.specs.Everies.{every_in, gap_from}
 use Rattle.foreign.proofs.EveryCounts.{next_some, next_none}

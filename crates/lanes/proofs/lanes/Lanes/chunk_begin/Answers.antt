@@ -2,8 +2,8 @@ use Rattle.std.proofs.Common.{◌*◌, ◌<◌, length, arith, rules}
 use Rattle.lanes.proofs.LaneAnswers.{chunk_fits}
 use Rattle.lanes.proofs.lanes.Lanes.chunk_begin.Goals as goal
 
-pub offset-bounds-offsets-chunk : goal.offset-bounds-offsets-chunk
-offset-bounds-offsets-chunk g c =
+pub offset_bounds-offsets-chunk : goal.offset_bounds-offsets-chunk
+offset_bounds-offsets-chunk g c =
     let s = c.args.self.now in
     let h : c.args.chunk * s.lanes < length s.offsets.now = chunk_fits s c.args.chunk c.requires in
     search rules

@@ -11,7 +11,7 @@ returns-in-Some g c =
       judged = inr (
         (λ place h. omega (arith, h.1)),
         inr (
-          (λ place h. h.1 (c.is-lane-count.ensures.0 c.if-not-is-lane-count.false)),
+          (λ place h. h.1 (c.is_lane_count.ensures.0 c.if-not-is_lane_count.false)),
           inl (record {
             why = by.reason;
             who = by.part;
@@ -22,15 +22,22 @@ returns-in-Some g c =
       holds = refl;
     }
 
-pub invariant-of-self : goal.invariant-of-self
-invariant-of-self g c =
-    let right = c.in-default.ensures in
-    (omega arith, (∣ c.is-lane-count.ensures.0 c.if-not-is-lane-count.false ∣₁, (right.offsets_length, (right.values_length, (right.right_offsets, (right.right_entries, tt))))))
+pub invariant_of-self : goal.invariant_of-self
+invariant_of-self g c =
+    let right = c.in_default.ensures in
+    record {
+      few = omega arith;
+      counted = ∣ c.is_lane_count.ensures.0 c.if-not-is_lane_count.false ∣₁;
+      offset_count = right.offsets_length;
+      value_count = right.values_length;
+      right_offsets = right.right_offsets;
+      right_entries = right.right_entries;
+    }
 
 pub returns : goal.returns
 returns g c =
     let t = c.args.tables.now in
     record {
-      judged = ((λ place h. omega (arith, h.1)), ((λ place h. h.1 (c.is-lane-count.ensures.0 c.if-not-is-lane-count.false)), (tables_kept t.offsets.now t.entries.now t.rows t.lanes (length t.values.now) c.in-default.ensures, tt)));
+      judged = ((λ place h. omega (arith, h.1)), ((λ place h. h.1 (c.is_lane_count.ensures.0 c.if-not-is_lane_count.false)), (tables_kept t.offsets.now t.entries.now t.rows t.lanes (length t.values.now) c.in_default.ensures, tt)));
       holds = record { rows = refl; lanes = refl; offsets = refl; entries = refl; values = refl };
     }

@@ -2,8 +2,8 @@ use Rattle.std.proofs.Common.{◌+◌, ◌<◌, length, inl, inr, arith}
 use Rattle.lanes.proofs.LaneOffsets.{begin_first, begin_top, wrong_from, right_before, right_all}
 use Rattle.lanes.proofs.lanes.loads.first_wrong_entry.Goals as goal
 
-pub overflow-add-lane : goal.overflow-add-lane
-overflow-add-lane c = omega (arith, c.loop-lane.invariant.0)
+pub overflow_add-lane : goal.overflow_add-lane
+overflow_add-lane c = omega (arith, c.loop-lane.invariant.0)
 
 pub loop-lane-init : goal.loop-lane-init
 loop-lane-init c =
@@ -12,8 +12,8 @@ loop-lane-init c =
       (λ k h w. omega (arith, begin_first t.offsets.now t.entries.now c.requires.right (omega (arith, w.1)))),
     )
 
-pub first-wrong-in-requires : goal.first-wrong-in-requires
-first-wrong-in-requires c =
+pub first_wrong_in-requires : goal.first_wrong_in-requires
+first_wrong_in-requires c =
     let t = c.args.tables in
     record {
       count = c.requires.count;
@@ -38,7 +38,7 @@ loop-lane-preserved c =
     let l = c.loop-lane in
     let there : l.lane + 1 < length t.offsets.now = omega arith in (
       inr there,
-      (λ k h. right_before t.offsets.now t.entries.now c.requires.right t.rows t.lanes l.lane there k h (l.invariant.1 k) (c.in-default.ensures k)),
+      (λ k h. right_before t.offsets.now t.entries.now c.requires.right t.rows t.lanes l.lane there k h (l.invariant.1 k) (c.in_default.ensures k)),
     )
 
 pub returns : goal.returns

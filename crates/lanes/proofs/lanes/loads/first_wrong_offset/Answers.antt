@@ -4,4 +4,4 @@ use Rattle.lanes.proofs.lanes.loads.first_wrong_offset.Goals as goal
 
 pub loop-place-preserved : goal.loop-place-preserved
 loop-place-preserved c =
-    below_more _ _ c.loop-place.invariant (not_from_Decides _ c.is-wrong-offset.ensures c.if-is-wrong-offset.false)
+    below_more _ _ c.loop-place.invariant (not_from_Decides _ c.is_wrong_offset.ensures c.if-is_wrong_offset.false)

@@ -1,12 +1,12 @@
 use Rattle.std.proofs.Common.{◌≡◌, ◌+◌, ◌-◌, ◌≤◌, min, length, drop, refl, ◌∙◌, arith, length-drop}
 use borrow.Rule.Slice.PartMut.{same_len_mid}
 use Rattle.std.proofs.lemmas.List.{length-take-le}
-use Rattle.runs.proofs.Dealing.{Dealt, dealt_none, dealt_more, all_leads, all_listed, all_rest}
+use Rattle.runs.proofs.Dealing.{dealt_none, dealt_more, all_leads, all_listed, all_rest}
 use Rattle.runs.proofs.attempts.Run.attempt_all.Goals as goal
 use Rattle.runs.proofs.attempts.Run.attempt_all.Goals.{then-wanted-left, else-wanted-left}
 
-pub overflow-sub-left : goal.overflow-sub-left
-overflow-sub-left g c = omega (arith, c.loop-i.invariant.place)
+pub overflow_sub-left : goal.overflow_sub-left
+overflow_sub-left g c = omega (arith, c.loop-i.invariant.place)
 
 pub loop-i-init : goal.loop-i-init
 loop-i-init g c = dealt_none _ _ _ _
@@ -27,5 +27,5 @@ returns g c =
       attempts = s.attempts;
       rest = all_rest _ _ _ _ _ _ _ _ _ s (omega arith);
       leads = all_leads _ _ _ _ _ _ _ _ _ s (omega arith);
-      every_list_lem = all_listed _ _ _ _ _ _ _ _ _ s (omega arith);
+      every_list = all_listed _ _ _ _ _ _ _ _ _ s (omega arith);
     }

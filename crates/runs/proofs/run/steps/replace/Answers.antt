@@ -1,6 +1,6 @@
 use Rattle.std.proofs.Common.{sym, ◌∙◌, arith}
 use Rattle.patches.proofs.Counts.{count_le}
-use Rattle.runs.proofs.Partly.{Partly, partly_none, to_hit, to_miss, partly_all, partly_replaced}
+use Rattle.runs.proofs.Partly.{partly_none, to_hit, to_miss, partly_all, partly_replaced}
 use Rattle.runs.proofs.run.steps.replace.Goals as goal
 
 pub loop-next-init : goal.loop-next-init
@@ -13,8 +13,8 @@ loop-next-preserved g c =
       omega (arith, h.0),
       omega arith,
       elim c.match-find.branch [
-        | goal.in-Some-find w ↦ simp (w.cells-is, w.count_is) (to_hit _ _ _ _ _ _ _ i.0 h.0 h.2 i.2 _ (omega arith) (sym c.find.ensures ∙ w.in-Some-find.is))
-        | goal.in-default-find w ↦ simp (w.cells-is, w.count_is) (to_miss _ _ _ _ _ _ _ i.0 h.0 h.2 i.2 (sym c.find.ensures ∙ w.in-default-find.is))
+        | goal.in-Some-find w ↦ simp (w.cells-is, w.count-is) (to_hit _ _ _ _ _ _ _ i.0 h.0 h.2 i.2 _ (omega arith) (sym c.find.ensures ∙ w.in-Some-find.is))
+        | goal.in_default-find w ↦ simp (w.cells-is, w.count-is) (to_miss _ _ _ _ _ _ _ i.0 h.0 h.2 i.2 (sym c.find.ensures ∙ w.in_default-find.is))
       ],
     )
 
@@ -25,14 +25,14 @@ returns-then-next-end g c =
     let all = partly_all _ _ _ _ _ _ i.1 (λ k a b. h.2 k a (omega arith)) i.2 in
     record { cells = partly_replaced _ _ _ _ _ all; count = all.counted }
 
-pub returns-in-default : goal.returns-in-default
-returns-in-default g c =
+pub returns-in_default : goal.returns-in_default
+returns-in_default g c =
     let i = c.loop-next.invariant in
-    let h = c.in-default.ensures in
+    let h = c.in_default.ensures in
     let all = partly_all _ _ _ _ _ _ i.1 (λ k a b. h k a) i.2 in
     record { cells = partly_replaced _ _ _ _ _ all; count = all.counted }
 
-pub overflow-add-count : goal.overflow-add-count
-overflow-add-count g c =
+pub overflow_add-count : goal.overflow_add-count
+overflow_add-count g c =
     let m = g.S.PatchSet.meaning c.args.set.now in
     omega (arith, c.loop-next.invariant.2.counted, count_le m.patch c.loop-next.row, m.few)

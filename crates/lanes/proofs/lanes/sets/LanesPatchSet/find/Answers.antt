@@ -4,17 +4,17 @@ use Rattle.lanes.proofs.LaneCounts.{lanes_pos}
 use Rattle.lanes.proofs.LaneAnswers.{lane_there, begin_within, found_patch, missed_patch}
 use Rattle.lanes.proofs.lanes.sets.LanesPatchSet.find.Goals as goal
 
-pub nonzero-rem-lane : goal.nonzero-rem-lane
-nonzero-rem-lane g c = let h = lanes_pos c.args.self.now.lanes c.args.self.now.counted in search rules
+pub nonzero_rem-lane : goal.nonzero_rem-lane
+nonzero_rem-lane g c = let h = lanes_pos c.args.self.now.lanes c.args.self.now.counted in search rules
 
-pub place-in-requires : goal.place-in-requires
-place-in-requires g c =
+pub place_in-requires : goal.place_in-requires
+place_in-requires g c =
     let s = c.args.self.now in
     let there = lane_there s c.args.r c.if-r-self.false in
     record { lane = there; places = begin_within s (lane_of s.lanes c.args.r + 1) there }
 
-pub offset-bounds-values-place : goal.offset-bounds-values-place
-offset-bounds-values-place g c =
+pub offset_bounds-values-place : goal.offset_bounds-values-place
+offset_bounds-values-place g c =
     let s = c.args.self.now in
     let there = lane_there s c.args.r c.if-r-self.false in
     omega (arith, s.value_count, c.in-Some.ensures.0, begin_within s (lane_of s.lanes c.args.r + 1) there)

@@ -7,10 +7,10 @@ use Rattle.lanes.proofs.lanes.sets.LanesPatchSet.next.Goals as goal
 
 pub returns-then-place-self : goal.returns-then-place-self
 returns-then-place-self g c =
-    next_none c.args.self.now c.args.r c.if-r-self.false c.in-default.ensures (omega (arith, c.chunk-begin-place.ensures, c.if-place-self.true))
+    next_none c.args.self.now c.args.r c.if-r-self.false c.in_default.ensures (omega (arith, c.chunk_begin-place.ensures, c.if-place-self.true))
 
-pub chunk-of-later-requires : goal.chunk-of-later-requires
-chunk-of-later-requires g c =
+pub chunk_of-later-requires : goal.chunk_of-later-requires
+chunk_of-later-requires g c =
     let s = c.args.self.now in
     let d : ℕ = c.args.r / 1024 + 1 in
     let within = row_in s c.args.r c.if-r-self.false in
@@ -19,15 +19,15 @@ chunk-of-later-requires g c =
         | inl h ↦ h
         | inr h ↦
             let e : d ≡ count_of_chunks 0 s.rows = omega (arith, within) in
-            absurd (omega (arith, c.chunk-begin-place.ensures, ap (begin_of_chunk s) e, chunk_last s, c.if-place-self.false))
+            absurd (omega (arith, c.chunk_begin-place.ensures, ap (begin_of_chunk s) e, chunk_last s, c.if-place-self.false))
       ];
-      begun = omega (arith, c.chunk-begin-place.ensures);
+      begun = omega (arith, c.chunk_begin-place.ensures);
       within = c.if-place-self.false;
     }
 
 pub returns : goal.returns
 returns g c =
     let s = c.args.self.now in
-    let d = c.chunk-of-later.result in
-    let there = c.chunk-of-later.ensures in
-    next_later s c.args.r c.if-r-self.false c.in-default.ensures c.chunk-begin-place.result d c.chunk-begin-place.ensures there.there.0 there.there.1 there.holds.0 there.holds.1 c.next-in-2.result c.next-in-2.ensures
+    let d = c.chunk_of-later.result in
+    let there = c.chunk_of-later.ensures in
+    next_later s c.args.r c.if-r-self.false c.in_default.ensures c.chunk_begin-place.result d c.chunk_begin-place.ensures there.there.0 there.there.1 there.holds.0 there.holds.1 c.next_in-2.result c.next_in-2.ensures
