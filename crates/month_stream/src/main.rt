@@ -7,6 +7,7 @@ mod steps;
 mod stream;
 
 use std::env;
+use std::process::ExitCode;
 use steps::run_job;
 use stream_job::job::{Job, parse};
 
@@ -60,16 +61,24 @@ fn read_job(rt: &HostRuntime, file: &str) -> Result<Job, Stopped> {
     }
 }
 
-fn main(rt: HostRuntime) -> Result<(), Stopped> {
-    match read_request(&rt)? {
-        Request::Usage => files::say(&rt, USAGE),
+/// Does what the command line asks for.
+fn run(rt: &HostRuntime) -> Result<(), Stopped> {
+    match read_request(rt)? {
+        Request::Usage => files::say(rt, USAGE),
         Request::Wrong => {
             let _ = eprintln!(rt; "{USAGE}");
             Err(Stopped)
         }
         Request::Run { file, all } => {
-            let job = read_job(&rt, file.as_str())?;
-            run_job(&rt, file.as_str(), &job, all)
+            let job = read_job(rt, file.as_str())?;
+            run_job(rt, file.as_str(), &job, all)
         }
+    }
+}
+
+fn main(rt: HostRuntime) -> ExitCode {
+    match run(&rt) {
+        Ok(()) => ExitCode::SUCCESS,
+        Err(Stopped) => ExitCode::FAILURE,
     }
 }

@@ -1,5 +1,5 @@
 -- The number of a line within its text. Assumes nothing.
-use Rattle.std.proofs.Common.{◌≡◌, ℕ, ◌+◌, ◌-◌, ◌<◌, ◌≤◌, Bool, true, cond, eqb, List, [], ◌∷◌, ◌++◌, length, take, drop, sym, refl, ap, ◌∙◌, subst, arith, length-drop, take-append-drop, eqb-true}
+use Rattle.std.proofs.Common.{◌≡◌, ℕ, ◌+◌, ◌-◌, ◌<◌, ◌≤◌, true, eqb, List, [], ◌∷◌, ◌++◌, length, take, drop, ap, ◌∙◌, arith, length-drop, take-append-drop, eqb-true}
 use lib.Utf8.{encode}
 use Rattle.std.specs.Str.Lines.{IsFirstLine}
 use Rattle.stream_job.specs.Jobs.{newlines}

@@ -56,7 +56,7 @@ pub fn in_order(heap: Global, lookups: &[u64]) -> Result<Vec<Wanted>, AllocError
     ensures { IfOk result (λ v. InOrder lookups.now v.items) }
 {
     let mut wanted = wanted_rows(heap, lookups)?;
-    wanted.sort();
+    wanted.sort()?;
     Ok(wanted)
 }
 

@@ -1,5 +1,5 @@
 -- The one answer of a left search among rising numbers.
-use Rattle.std.proofs.Common.{◌≡◌, ℕ, ◌+◌, ◌-◌, ◌<◌, ◌≤◌, ◌⊎◌, sym, refl, ap, ◌∙◌, inl, inr, arith}
+use Rattle.std.proofs.Common.{◌≡◌, ℕ, ◌+◌, ◌<◌, sym, ap, ◌∙◌, inl, inr, arith}
 use Rattle.std.proofs.lemmas.Bool.{cases_lt}
 use Rattle.search_sorted.specs.declared.search.SearchResult.{SearchResult}
 use Rattle.search_sorted.specs.declared.search.SearchResult.TheVariants.{Found, NotFound}

@@ -1,4 +1,4 @@
-use Rattle.std.proofs.Common.{◌≡◌, ◌+◌, ◌-◌, ◌≤◌, vec_items, vec_len, refl, arith, rules}
+use Rattle.std.proofs.Common.{◌≡◌, ◌+◌, ◌-◌, vec_items, vec_len, refl, arith}
 use Rattle.patches.specs.Chunks.{first_row_of, end_row_of}
 use Rattle.runs.specs.declared.attempts.Attempt.TheVariants.{Step}
 use Rattle.runs.specs.declared.attempts.Entry.{Entry}
@@ -13,8 +13,8 @@ loop-chunk-preserved c =
     let chunk = c.loop-chunk.chunk in
     let start_is : c.in-Ok.part.start ≡ first_row_of chunk phase rows = c.in-Ok.ensures.start in
     let end_is : c.in-Ok.part.end ≡ end_row_of chunk phase rows = c.in-Ok.ensures.end in
-    let places = c.in-ok-push.ensures.by_index in
-    let long : vec_len c.push.new.self ≡ vec_len c.loop-chunk.entries + 1 = c.in-ok-push.ensures.len in
+    let places = c.in_ok-push.ensures.by_index in
+    let long : vec_len c.push.new.self ≡ vec_len c.loop-chunk.entries + 1 = c.in_ok-push.ensures.len in
     let n = vec_len c.loop-chunk.entries in
     let e : Entry = record { attempt = Step (c.in-Ok.part.end - c.in-Ok.part.start) rows; outcome = NotMade } in
     let at : chunk ≡ c.min-start.result + n = omega (arith, c.loop-chunk.invariant.0) in (

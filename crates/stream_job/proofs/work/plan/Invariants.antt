@@ -1,4 +1,4 @@
-use Rattle.std.proofs.Common.{◌≡◌, ℕ, ◌+◌, ◌-◌, ◌<◌, get_or, vec_items, vec_len}
+use Rattle.std.proofs.Common.{◌≡◌, ℕ, ◌+◌, ◌<◌, get_or, vec_items, vec_len}
 use Rattle.patches.specs.Chunks.{first_row_of}
 use Rattle.runs.specs.declared.attempts.Entry.{Entry}
 use Rattle.stream_job.specs.Works.{step_entry}
