@@ -3,13 +3,17 @@
 # other, and prints the time of each piece beside Rust's.
 set -eu
 cd "$(dirname "$0")/.."
-out=target/speed
+out="$PWD/target/speed"
 mkdir -p "$out"
 
-rt check bench
+# proves and builds, and runs the program once
+if ! (cd crates/bench && rt run) >"$out/build.log" 2>&1; then
+    cat "$out/build.log"
+    exit 1
+fi
 rustc --edition 2024 -O -C target-cpu=x86-64 -o "$out/rust" bench/rust/main.rs
 
-target/bin/bench >"$out/ours.sums" 2>"$out/ours.times"
+crates/bench/out/bench >"$out/ours.sums" 2>"$out/ours.times"
 "$out/rust" >"$out/rust.sums" 2>"$out/rust.times"
 
 if ! diff "$out/ours.sums" "$out/rust.sums"; then
