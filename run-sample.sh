@@ -6,7 +6,7 @@ crate="$PWD/crates/month_end"
 folder="$(mktemp -d)"
 cp "$crate"/data/* "$folder"
 program="$crate/out/month_end"
-# with no arguments the program only says how it is used: this proves and builds it
+# this proves and builds the program, which with `--help` only says how it is used
 (cd "$crate" && rt run -- --help) >"$folder/build.log" 2>&1 || true
 if [ ! -x "$program" ]; then
     cat "$folder/build.log"
