@@ -8,8 +8,6 @@ import os
 import struct
 
 HERE = os.path.dirname(os.path.abspath(__file__))
-CRATE = os.path.join(HERE, "..", "crates", "month_end")
-DATA = os.path.join(CRATE, "data")
 
 ROWS = 5000
 OFFSET = 1500
@@ -60,11 +58,6 @@ def correction(place, before):
     return before + (place * 53) % 401 - 200 if place % 7 else -before
 
 
-def write(name, data):
-    with open(os.path.join(DATA, name), "wb") as file:
-        file.write(data)
-
-
 def cells(numbers):
     return b"".join(struct.pack("<q", number) for number in numbers)
 
@@ -84,16 +77,15 @@ chunks october-chunks.bin
 chunk-width 4
 within {within}
 
-{lookups}
+{asked}{lookups}
 output prices-corrected.bin
 """
 
 
-def expected(before, patches):
-    """The text that the program must print."""
-    after = [patches.get(row, old) for row, old in enumerate(before)]
+def opening_lines(before, patches):
+    """The lines on the history and on the corrections."""
     rows = sorted(patches)
-    lines = [
+    return [
         f"history prices-2019.bin: {SPLIT} cells",
         f"history prices-2020.bin: {ROWS - SPLIT} cells",
         f"history: {ROWS} cells in 2 files, total {sum(before)}",
@@ -101,28 +93,53 @@ def expected(before, patches):
         f"corrections: first patched row {rows[0]}, last patched row {rows[-1]}",
         f"chunk data: october-chunks.bin, width 4, within {WITHIN}",
     ]
-    for row in LOOKUPS:
-        if row >= ROWS:
-            lines.append(f"lookup row {row}: the history has no such row")
-        elif row in patches:
-            lines.append(f"lookup row {row}: before {before[row]}, after {patches[row]}")
-        else:
-            lines.append(f"lookup row {row}: not corrected, amount {before[row]}")
-    lines.append(f"corrected: {len(rows)} cells in {chunk_count()} chunks")
+
+
+def lookup_line(row, before, patches):
+    """The line for a look-up of a row of the history."""
+    if row >= ROWS:
+        return f"lookup row {row}: the history has no such row"
+    if row in patches:
+        return f"lookup row {row}: before {before[row]}, after {patches[row]}"
+    return f"lookup row {row}: not corrected, amount {before[row]}"
+
+
+def cell_lines(before, patches, rows):
+    """The lines for the corrected cells: where they are many, the first and the last."""
     shown = [f"  row {row}: before {before[row]}, after {patches[row]}" for row in rows]
     hidden = len(shown) - SHOWN_FIRST - SHOWN_LAST
-    lines += shown[:SHOWN_FIRST]
-    lines.append(f"  {hidden} more, not shown; run with --all to see every cell")
-    lines += shown[-SHOWN_LAST:]
-    lines.append(f"written: prices-corrected.bin, {ROWS} cells, {8 * ROWS} bytes")
-    lines.append(
-        f"corrected {len(rows)} of {ROWS} cells; total before {sum(before)}, after {sum(after)}; signed: ____________"
-    )
-    return "\n".join(lines) + "\n"
+    if hidden <= 0:
+        return shown
+    more = f"  {hidden} more, not shown; run with --all to see every cell"
+    return shown[:SHOWN_FIRST] + [more] + shown[-SHOWN_LAST:]
 
 
-def main():
-    os.makedirs(DATA, exist_ok=True)
+def closing_lines(before, patches, work):
+    """The lines on the file that is written and the line to sign, for the rows of the work."""
+    rows = [row for row in sorted(patches) if row in work]
+    old = sum(before[row] for row in work)
+    new = sum(patches.get(row, before[row]) for row in work)
+    return [
+        f"written: prices-corrected.bin, {len(work)} cells, {8 * len(work)} bytes",
+        f"corrected {len(rows)} of {len(work)} cells; total before {old}, after {new}; signed: ____________",
+    ]
+
+
+def expected(before, patches):
+    """The lines that month_end must print."""
+    rows = sorted(patches)
+    lines = opening_lines(before, patches)
+    lines += [lookup_line(row, before, patches) for row in LOOKUPS]
+    lines.append(f"corrected: {len(rows)} cells in {chunk_count()} chunks")
+    lines += cell_lines(before, patches, rows)
+    return lines + closing_lines(before, patches, range(ROWS))
+
+
+def make(program, asked, expected_lines):
+    """Writes the sample of a program into its crate: the files, the job with further lines that it asks, and the output."""
+    crate = os.path.join(HERE, "..", "crates", program)
+    data = os.path.join(crate, "data")
+    os.makedirs(data, exist_ok=True)
     before = [amount(row) for row in range(ROWS)]
     rows = corrected_rows()
     patches = {row: correction(place, before[row]) for place, row in enumerate(rows)}
@@ -131,19 +148,24 @@ def main():
         FIRST_ENTRY + WITHIN + sum(index < chunk_start(chunk) for index in indices)
         for chunk in range(1, chunk_count())
     ]
-    write("prices-2019.bin", cells(before[:SPLIT]))
-    write("prices-2020.bin", cells(before[SPLIT:]))
-    write("october-indices.bin", b"".join(struct.pack("<I", index) for index in indices))
-    write("october-values.bin", cells(patches[row] for row in rows))
-    write("october-chunks.bin", b"".join(struct.pack("<I", entry) for entry in entries))
     lookups = "".join(f"lookup {row}\n" for row in LOOKUPS)
-    job = JOB.format(rows=ROWS, offset=OFFSET, within=WITHIN, lookups=lookups)
-    write("month.job", job.encode())
-    with open(os.path.join(CRATE, "args"), "w") as file:
+    job = JOB.format(rows=ROWS, offset=OFFSET, within=WITHIN, asked=asked, lookups=lookups)
+    files = {
+        "prices-2019.bin": cells(before[:SPLIT]),
+        "prices-2020.bin": cells(before[SPLIT:]),
+        "october-indices.bin": b"".join(struct.pack("<I", index) for index in indices),
+        "october-values.bin": cells(patches[row] for row in rows),
+        "october-chunks.bin": b"".join(struct.pack("<I", entry) for entry in entries),
+        "month.job": job.encode(),
+    }
+    for name, content in files.items():
+        with open(os.path.join(data, name), "wb") as file:
+            file.write(content)
+    with open(os.path.join(crate, "args"), "w") as file:
         file.write("month.job\n")
-    with open(os.path.join(CRATE, "stdout"), "w") as file:
-        file.write(expected(before, patches))
+    with open(os.path.join(crate, "stdout"), "w") as file:
+        file.write("\n".join(expected_lines(before, patches)) + "\n")
 
 
 if __name__ == "__main__":
-    main()
+    make("month_end", "", expected)
