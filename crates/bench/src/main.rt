@@ -26,22 +26,22 @@ fn run(rt: &HostRuntime) -> anyhow::Result<()> {
     let indices = inputs::make_indices(heap)?;
     let values = inputs::make_values(heap)?;
     let rows = inputs::make_rows(heap)?;
-    let mut file = corrections(indices.as_slice(), values.as_slice());
+    let mut file = corrections(&indices, &values);
     let mut plain = Column::empty();
     times::time_load(rt, "load", &mut plain, &file)?;
     let entries = inputs::make_entries(heap, &plain)?;
     file.chunks = Some(ChunkTable {
         width: 4,
-        entries: entries.as_slice(),
+        entries: &entries,
         within: 0,
     });
     let mut chunked = Column::empty();
     times::time_load(rt, "load_with_chunks", &mut chunked, &file)?;
-    times::time_lookups(rt, "lookup", &plain, rows.as_slice())?;
-    times::time_lookups(rt, "lookup_with_chunks", &chunked, rows.as_slice())?;
+    times::time_lookups(rt, "lookup", &plain, &rows)?;
+    times::time_lookups(rt, "lookup_with_chunks", &chunked, &rows)?;
     let mut history = vec![in heap; 0i64; ROWS as usize]?;
-    times::time_patches(rt, &chunked, history.as_mut_slice())?;
-    let sum = work::mixed(history.as_slice());
+    times::time_patches(rt, &chunked, &mut history)?;
+    let sum = work::mixed(&history);
     println!(rt; "patch_chunk {sum}")?;
     Ok(())
 }

@@ -6,13 +6,9 @@ use patches::refusal::Refusal;
 
 /// The sum of the patches of the rows that have one, added to a sum.
 pub fn add_lookups(column: &Column<i64>, rows: &[u64], sum: i64) -> i64 {
-    let mut sum = sum;
-    for row in rows {
-        if let Some(value) = column.get_patched(*row) {
-            sum = sum.wrapping_add(value);
-        }
-    }
-    sum
+    rows.iter()
+        .filter_map(|row| column.get_patched(*row))
+        .fold(sum, |sum, value| sum.wrapping_add(value))
 }
 
 /// Corrects a history, chunk by chunk, for a column whose offset is 0.
@@ -28,9 +24,5 @@ pub(crate) fn patch_all(column: &Column<i64>, history: &mut [i64]) -> Result<(),
 
 /// A sum of cells in which each place counts.
 pub fn mixed(cells: &[i64]) -> i64 {
-    let mut sum: i64 = 0;
-    for cell in cells {
-        sum = sum.wrapping_mul(31).wrapping_add(*cell);
-    }
-    sum
+    cells.iter().fold(0, |sum: i64, cell| sum.wrapping_mul(31).wrapping_add(*cell))
 }

@@ -1,6 +1,7 @@
 -- How many rows below one leave the first row, and which is the next.
-use Rattle.std.proofs.Common.{◌≡◌, ℕ, zero, suc, ◌+◌, ◌-◌, ◌%◌, ◌<◌, ◌≤◌, min, cond, eqb, ltb, is_some, Some, None, sym, ap, ◌∙◌, inl, inr, mod-lt, arith}
+use Rattle.std.proofs.Common.{◌≡◌, ℕ, zero, suc, ◌+◌, ◌-◌, ◌%◌, ◌<◌, ◌≤◌, min, cond, eqb, ltb, is_some, Some, None, sym, ap, ◌∙◌, subst, inl, inr, mod-lt, arith}
 use native.Mathlib.Nat.{zero-mod, zero-div}
+use Rattle.std.specs.Bool.{then_some}
 use Rattle.std.proofs.lemmas.Bool.{cases_lt, cases_eq, cond-true, cond-false, lt-ltb, le-ltb, eq-eqb, ne_eqb}
 use Rattle.std.proofs.lemmas.Bool.Decides.{nat_tests}
 use Rattle.patches.specs.Assignments.{one, patches_below, Next}
@@ -81,13 +82,22 @@ module _ (rows s f : ℕ) (pos : f < s) where
         | inr ge ↦ past_rows k ge
       ]
 
-  pub next_some : (r : ℕ) → r + gap_from s f (r % s) < rows → Next (every_in rows s f) r (Some (r + gap_from s f (r % s)))
+  next_some : (r : ℕ) → r + gap_from s f (r % s) < rows → Next (every_in rows s f) r (Some (r + gap_from s f (r % s)))
   next_some r h =
       (omega arith, ap is_some (in_rows (r + gap_from s f (r % s)) h ∙ at_there (r + gap_from s f (r % s)) (gap_there r)), none_in r)
 
-  pub next_none : (r : ℕ) → rows ≤ r + gap_from s f (r % s) → Next (every_in rows s f) r None
+  next_none : (r : ℕ) → rows ≤ r + gap_from s f (r % s) → Next (every_in rows s f) r None
   next_none r h k low =
       elim (cases_lt k rows) [
         | inl lt ↦ none_in r k low (omega arith)
         | inr ge ↦ past_rows k ge
+      ]
+
+  -- the next patched row is the one after the gap, if it is among the rows
+  pub next_at : (r : ℕ) → Next (every_in rows s f) r (then_some (ltb (r + gap_from s f (r % s)) rows) (r + gap_from s f (r % s)))
+  next_at r =
+      let row : ℕ = r + gap_from s f (r % s) in
+      elim (cases_lt row rows) [
+        | inl lt ↦ subst (λ b. Next (every_in rows s f) r (then_some b row)) (sym (lt-ltb row rows lt)) (next_some r lt)
+        | inr ge ↦ subst (λ b. Next (every_in rows s f) r (then_some b row)) (sym (le-ltb row rows ge)) (next_none r ge)
       ]

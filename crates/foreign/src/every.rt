@@ -17,13 +17,6 @@ pub struct Every {
     ghost among: { first < step },
 }
 
-// The lesser of two numbers.
-fn lesser(a: u64, b: u64) -> u64
-    ensures { result ≡ min a b }
-{
-    if a < b { a } else { b }
-}
-
 impl Every {
     /// Every `step`th row of so many from the row `first` mod `step` on. Rows and step are lowered to 2147483648, and a
     /// step of 0 counts as 1.
@@ -32,10 +25,9 @@ impl Every {
         ensures step { result.step ≡ max 1 (min step limit) }
         ensures first { result.first ≡ first % result.step }
     {
-        let short = lesser(step, LIMIT);
-        let step = if short > 0 { short } else { 1 };
+        let step = step.min(LIMIT).max(1);
         Every {
-            rows: lesser(rows, LIMIT),
+            rows: rows.min(LIMIT),
             step,
             first: first % step,
         }
@@ -46,12 +38,7 @@ impl Every {
         requires { row ≤ limit }
         ensures { result ≡ count_to self.now.step self.now.first row }
     {
-        let rounds = row / self.step;
-        if self.first < row % self.step {
-            rounds + 1
-        } else {
-            rounds
-        }
+        row / self.step + u64::from(self.first < row % self.step)
     }
 
     // How many rows lie between a row and the next one that leaves `first`.
@@ -77,7 +64,7 @@ impl PatchSet for Every {
     }
 
     fn below(&self, r: u64) -> u64 {
-        self.count_to(lesser(r, self.rows))
+        self.count_to(r.min(self.rows))
     }
 
     fn next(&self, r: u64) -> Option<u64> {
@@ -85,14 +72,10 @@ impl PatchSet for Every {
             return None;
         }
         let row = r + self.gap(r);
-        if row < self.rows { Some(row) } else { None }
+        (row < self.rows).then_some(row)
     }
 
     fn find(&self, r: u64) -> Option<Mark> {
-        if r < self.rows && r % self.step == self.first {
-            Some(mark_at(r))
-        } else {
-            None
-        }
+        (r < self.rows && r % self.step == self.first).then(|| mark_at(r))
     }
 }

@@ -1,16 +1,10 @@
 -- Offsets that break no rule: they begin at 0, never fall, and end at the number of entries; so a place lies in one lane.
-use Rattle.std.proofs.Common.{◌≡◌, ℕ, zero, suc, ◌+◌, ◌-◌, ◌<◌, ◌≤◌, ◌⊎◌, List, [], ◌∷◌, length, refl, subst, inl, inr, arith}
-use Rattle.std.proofs.lemmas.Bool.{cases_eq, cases_lt}
-use Rattle.lanes.specs.LaneRules.{BreaksIn, lane_total, begin_of, WrongLength, RightOffsets, LiesIn, WrongEntry, RightEntries, WrongTable}
-use Rattle.lanes.specs.LaneLoads.{WrongIn, RightTables}
-
--- the tables of no rows
-pub empty_offsets : RightOffsets (0 ∷ []) []
-empty_offsets zero w = omega arith
-empty_offsets (suc i) w = omega arith
-
-pub empty_entries : RightEntries (0 ∷ []) [] 0 1
-empty_entries j w = omega (arith, w.1)
+use Rattle.std.proofs.Common.{◌≡◌, ℕ, zero, suc, ◌+◌, ◌-◌, ◌<◌, ◌≤◌, true, false, leb, List, length, Some, None, Option, MatchOption, refl, subst, inl, inr, arith}
+use Rattle.std.specs.List.Sorted.{IsPartitionPoint, IsPartitionedBy}
+use Rattle.std.proofs.lemmas.Bool.{cases_eq, cases_lt, leb-true, leb-false}
+use Rattle.std.proofs.lemmas.List.Sorted.{IsPartitionedBy-leb, IsNonDecreasingBy-from_default}
+use Rattle.lanes.specs.LaneRules.{BreaksIn, lane_total, begin_of, WrongLength, RightOffsets, LiesIn, WrongEntry, WrongPlace, WrongTable, RightEntries}
+use Rattle.lanes.specs.LaneLoads.{First, WrongIn}
 
 module _ (offsets entries : List ℕ) (right : RightOffsets offsets entries) where
   -- the first offset is 0
@@ -63,6 +57,25 @@ module _ (offsets entries : List ℕ) (right : RightOffsets offsets entries) whe
             ]
       ]
 
+  -- the offsets up to a place come first
+  pub lane_parted : (place : ℕ) → IsPartitionedBy (λ b. leb b place) offsets
+  lane_parted place = IsPartitionedBy-leb (λ b. b) offsets place (IsNonDecreasingBy-from_default (λ b. b) offsets 0 begin_mono)
+
+  -- a place lies in the last lane that begins no later
+  pub lane_point : (place i : ℕ) → place < length entries → 0 < length offsets → i ≤ length offsets → IsPartitionPoint (λ b. leb b place ≡ true) (λ b. leb b place ≡ false) offsets i → (1 ≤ i) × LiesIn offsets entries (i - 1) place
+  lane_point place i h some top point =
+      let pos : 0 < i = elim (cases_lt 0 i) [
+        | inl l ↦ l
+        | inr l ↦ absurd (omega (arith, leb-false (begin_of offsets entries 0) place (point.1 0 0 (omega arith) some), begin_first some))
+      ] in
+      let low : begin_of offsets entries (i - 1) ≤ place = leb-true (begin_of offsets entries (i - 1)) place (point.0 (i - 1) 0 (omega arith) (omega arith)) in
+      let e : i - 1 + 1 ≡ i = omega arith in
+      let in-offsets : i < length offsets = elim (cases_lt i (length offsets)) [
+        | inl l ↦ l
+        | inr l ↦ absurd (omega (arith, low, begin_last (i - 1) (omega arith)))
+      ] in
+      (pos, (omega arith, low, rw e (leb-false (begin_of offsets entries i) place (point.1 i 0 (omega arith) in-offsets))))
+
   module _ (rows lanes lane : ℕ) (there : lane + 1 < length offsets) where
     -- an entry that is wrong in its lane is wrong
     pub wrong_from : (j : ℕ) → WrongIn offsets entries rows lanes lane j → WrongEntry offsets entries rows lanes j
@@ -78,24 +91,32 @@ module _ (offsets entries : List ℕ) (right : RightOffsets offsets entries) whe
               here (l, h, subst (λ g. BreaksIn offsets entries rows lanes g j) e w.2)
         ]
 
-  -- no entry is wrong where none before the last lane's end is
-  pub right_all : (rows lanes lane : ℕ) → length offsets ≤ lane + 1 → (lane ≡ 0) ⊎ (lane < length offsets) → ((j : ℕ) → j < begin_of offsets entries lane → WrongEntry offsets entries rows lanes j → ⊥) → RightEntries offsets entries rows lanes
-  right_all rows lanes lane h at before j w =
-      elim at [
-        | inl e ↦ omega (arith, w.1.0)
-        | inr l ↦ before j (omega (arith, w.1, begin_mono (w.0 + 1) lane (omega (arith, w.1)) l)) w
-      ]
+  -- no entry is wrong where none before the last offset is
+  pub right_all : (rows lanes lane : ℕ) → lane + 1 ≡ length offsets → ((j : ℕ) → j < begin_of offsets entries lane → WrongEntry offsets entries rows lanes j → ⊥) → RightEntries offsets entries rows lanes
+  right_all rows lanes lane e before j w = before j (omega (arith, w.1, begin_mono (w.0 + 1) lane (omega (arith, w.1)) (omega arith))) w
 
--- lengths that are right are not wrong
-pub lengths_right : (offsets entries : List ℕ) (rows lanes values : ℕ) → length offsets ≡ lane_total lanes rows + 1 → values ≡ length entries → WrongLength offsets entries rows lanes values → ⊥
-lengths_right offsets entries rows lanes values a b (inl other) = other a
-lengths_right offsets entries rows lanes values a b (inr other) = other b
+-- tables with the right lengths
+module _ (offsets entries : List ℕ) (rows lanes values : ℕ) (long : length offsets ≡ lane_total lanes rows + 1) (paired : values ≡ length entries) where
+  lengths_right : WrongLength offsets entries rows lanes values → ⊥
+  lengths_right (inl other) = other long
+  lengths_right (inr other) = other paired
 
--- right tables break no rule at any place
-pub tables_kept : (offsets entries : List ℕ) (rows lanes values : ℕ) → RightTables offsets entries rows lanes values → (place : ℕ) → WrongTable offsets entries rows lanes values place → ⊥
-tables_kept offsets entries rows lanes values right place (inl w) = lengths_right offsets entries rows lanes values right.offsets_length right.values_length w.1
-tables_kept offsets entries rows lanes values right place (inr w) =
-    elim w.1 [
-      | inl o ↦ right.right_offsets place o
-      | inr e ↦ right.right_entries e.1.0 e.1.2
-    ]
+  -- where an offset or an entry breaks a rule the tables do
+  pub wrong_table : (place : ℕ) → WrongPlace offsets entries rows lanes place → WrongTable offsets entries rows lanes values place
+  wrong_table place w = inr (lengths_right, w)
+
+  -- and where none does the tables break no rule
+  pub right_table : RightOffsets offsets entries → RightEntries offsets entries rows lanes → (place : ℕ) → WrongTable offsets entries rows lanes values place → ⊥
+  right_table o e place (inl w) = lengths_right w.1
+  right_table o e place (inr (long, inl w)) = o place w
+  right_table o e place (inr (long, inr w)) = e w.1.0 w.1.2
+
+-- the first number of a range for which something holds
+pub first_within : (from to a b : ℕ) (P : ℕ → Type 0) (r : Option ℕ) → from ≡ a → to ≡ b → MatchOption r ((k : ℕ) → from ≤ k → k < to → P k → ⊥) (λ i. (from ≤ i) × (i < to) × P i × ((k : ℕ) → from ≤ k → k < i → P k → ⊥)) → First (λ k. (a ≤ k) × (k < b) × P k) r
+first_within from to a b P None e f none = λ k w. none k (omega (arith, w.0)) (omega (arith, w.1)) w.2
+first_within from to a b P (Some i) e f w = ((omega (arith, w.0), omega (arith, w.1), w.2), λ k h v. w.3 k (omega (arith, v.0)) h v.2)
+
+-- the same of something that holds of numbers of the range alone
+pub first_among : (n : ℕ) (P : ℕ → Type 0) (r : Option ℕ) → ((k : ℕ) → P k → k < n) → MatchOption r ((k : ℕ) → 0 ≤ k → k < n → P k → ⊥) (λ i. (0 ≤ i) × (i < n) × P i × ((k : ℕ) → 0 ≤ k → k < i → P k → ⊥)) → First P r
+first_among n P None low none = λ k w. none k (omega arith) (low k w) w
+first_among n P (Some i) low w = (w.2, λ k h. w.3 k (omega arith) h)

@@ -1,19 +1,21 @@
 -- Sound tables by their chunks: the entries of a chunk are its patched rows, each once.
 use Rattle.std.proofs.Common.{◌≡◌, ℕ, zero, suc, ◌+◌, ◌-◌, ◌*◌, ◌/◌, ◌%◌, ◌<◌, ◌≤◌, true, ltb, List, length, get_or, take, drop, is_some, None, sym, ap, ◌∙◌, subst, inl, inr, mul-le-mul_right, mod-lt, add-mul, arith}
+use Rattle.std.proofs.lemmas.Nat.{div-mul-add, mod-mul-add}
 use Rattle.std.proofs.lemmas.List.{length-take, length-drop}
 use Rattle.std.proofs.lemmas.Bool.{cases_eq, cases_lt, cond-true, cond-false, lt-ltb, le-ltb}
 use Rattle.patches.specs.Chunks.{limit, count_of_chunks}
 use Rattle.patches.specs.SeekLaws.{seek_none_from}
 use Rattle.lanes.specs.LaneRules.{IsLaneCount, lane_total, lane_of, row_in, begin_of, LiesIn, RightOffsets, RightEntries}
 use Rattle.lanes.specs.LaneSets.{in_lane, lane_patch}
-use Rattle.lanes.proofs.LaneCounts.{lanes_pos, lanes_mod, lane_chunk, lane_place, chunks_are}
+use Rattle.lanes.proofs.Laning.{lanes_some, lanes_mod}
+use Rattle.lanes.proofs.LaneCounts.{chunks_are}
 use Rattle.lanes.proofs.LaneOffsets.{begin_mono, begin_top}
 use Rattle.lanes.proofs.LaneTests.{seek_some}
 
 -- tables in which nothing breaks a rule, apart from their values
 pub record Table (offsets entries : List ℕ) (rows lanes : ℕ) : Type 0 where
   pub few : rows ≤ limit
-  pub counted : ∥ IsLaneCount lanes ∥₁
+  pub counted : IsLaneCount lanes
   pub long : length offsets ≡ lane_total lanes rows + 1
   pub right_offsets : RightOffsets offsets entries
   pub right_entries : RightEntries offsets entries rows lanes
@@ -71,7 +73,7 @@ module _ (offsets entries : List ℕ) (rows lanes : ℕ) (t : Table offsets entr
       pub chunk_lies : LiesIn offsets entries (c * lanes + get_or entries j 0 % lanes) j
       chunk_lies =
           let w = lane_of_place j (c * lanes) lanes from (rw (chunk_end c) at to) (omega (arith, chunk_end c, chunk_within (c + 1) (omega arith))) in
-          let e : get_or entries j 0 % lanes ≡ w.0 = entry_lane (c * lanes + w.0) j w.2 ∙ lane_place c w.0 lanes w.1 in
+          let e : get_or entries j 0 % lanes ≡ w.0 = entry_lane (c * lanes + w.0) j w.2 ∙ mod-mul-add c lanes w.0 w.1 in
           subst (λ l. LiesIn offsets entries (c * lanes + l) j) (sym e) w.2
 
       pub chunk_low : get_or entries j 0 < 1024
@@ -80,7 +82,7 @@ module _ (offsets entries : List ℕ) (rows lanes : ℕ) (t : Table offsets entr
       -- its row is one of the rows
       pub chunk_row : 1024 * c + get_or entries j 0 < rows
       chunk_row =
-          let e : (c * lanes + get_or entries j 0 % lanes) / lanes ≡ c = lane_chunk c (get_or entries j 0 % lanes) lanes (mod-lt (get_or entries j 0) (lanes_pos lanes t.counted)) in
+          let e : (c * lanes + get_or entries j 0 % lanes) / lanes ≡ c = div-mul-add c lanes (get_or entries j 0 % lanes) (mod-lt (get_or entries j 0) (lanes_some lanes t.counted)) in
           omega (arith, entry_row _ j chunk_lies, ap (λ n. 1024 * n) e)
 
     -- no two entries of a chunk are equal
@@ -127,7 +129,7 @@ module _ (offsets entries : List ℕ) (rows lanes : ℕ) (t : Table offsets entr
           | inl h ↦
               let g : ℕ = c * lanes + x % lanes in
               let chunk = row_chunk c x h in
-              let in-lanes : x % lanes < lanes = mod-lt x (lanes_pos lanes t.counted) in
+              let in-lanes : x % lanes < lanes = mod-lt x (lanes_some lanes t.counted) in
               let there : g + 1 < length offsets = lane_within c (x % lanes) chunk in-lanes in
               let left : begin_of offsets entries (c * lanes) ≤ begin_of offsets entries g = begin_mono offsets entries t.right_offsets (c * lanes) g (omega arith) (omega arith) in
               let right : begin_of offsets entries (g + 1) ≤ begin_of offsets entries ((c + 1) * lanes) = begin_mono offsets entries t.right_offsets (g + 1) ((c + 1) * lanes) (omega (arith, chunk_end c)) (chunk_within (c + 1) (omega arith)) in

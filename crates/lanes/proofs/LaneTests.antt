@@ -1,6 +1,8 @@
 -- How many of some numbers are below a bound, as the bound grows by one; and what stands beside an index.
-use Rattle.std.proofs.Common.{◌≡◌, ℕ, zero, suc, ◌+◌, ◌<◌, ◌≤◌, true, cond, eqb, ltb, ◌⊎◌, List, [], ◌∷◌, length, get_or, is_some, Some, sym, refl, ap, ◌∙◌, inl, inr, arith}
+use Rattle.std.proofs.Common.{◌≡◌, ℕ, zero, suc, ◌+◌, ◌<◌, ◌≤◌, true, cond, eqb, ltb, ◌⊎◌, List, [], ◌∷◌, length, get_or, take, count_by, is_some, Some, sym, refl, ap, ◌∙◌, inl, inr, arith}
 use Rattle.std.proofs.lemmas.Bool.{cases_eq, cases_lt, cond-true, cond-false, lt-ltb, le-ltb, eq-eqb, ne_eqb}
+use Rattle.std.proofs.lemmas.List.Sums.{sum_by_more}
+use Rattle.std.proofs.Math.Seq.{take-length}
 use Rattle.patches.specs.Indices.{count_under, seek}
 
 -- numbers of which no two are equal
@@ -60,12 +62,15 @@ module _ (f : ℕ → ℕ) where
             ]
       ]
 
-  -- one more number
-  pub under_more_below : (n m : ℕ) → f n < m → count_under f (n + 1) m ≡ count_under f n m + 1
-  under_more_below n m h = let e : n + 1 ≡ suc n = omega arith in rw e (omega (arith, below_one n m h))
+-- how many of a list's numbers are below a bound
+under_first : (m n : ℕ) (xs : List ℕ) → n ≤ length xs → count_by (λ x. ltb x m) (take n xs) ≡ count_under (λ i. get_or xs i 0) n m
+under_first m zero xs h = refl
+under_first m (suc n) xs h =
+    let e : suc n ≡ n + 1 = omega arith in
+    ap (λ k. count_by (λ x. ltb x m) (take k xs)) e ∙ omega (arith, sum_by_more (λ x. cond (ltb x m) 1 0) xs n 0 (omega arith), under_first m n xs (omega arith))
 
-  pub under_more_above : (n m : ℕ) → m ≤ f n → count_under f (n + 1) m ≡ count_under f n m
-  under_more_above n m h = let e : n + 1 ≡ suc n = omega arith in rw e (omega (arith, below_none n m h))
+pub under_is : (m : ℕ) (xs : List ℕ) → count_by (λ x. ltb x m) xs ≡ count_under (λ i. get_or xs i 0) (length xs) m
+under_is m xs = ap (count_by (λ x. ltb x m)) (sym (take-length xs)) ∙ under_first m (length xs) xs (omega arith)
 
 module _ {V : Type 0} (f : ℕ → ℕ) (x : ℕ) where
   -- an index that stands at a place, and not before, has that place's value beside it

@@ -75,7 +75,7 @@ module _ {V : Type 0} (rows lanes : ℕ) (o e : List ℕ) (v : List V) (s : Soun
   table : Table o e rows lanes
   table = record {
     few = s.few;
-    counted = ∣ s.count ∣₁;
+    counted = s.count;
     long = s.offsets_length;
     right_offsets = s.right_offsets;
     right_entries = s.right_entries;

@@ -1,10 +1,10 @@
+pub mod Laning
 pub mod LaneCounts
 pub mod LaneOffsets
 pub mod LaneTests
 pub mod LaneRows
-pub mod LaneAnswers
 pub mod LaneLeast
-pub mod Laning
+pub mod LaneAnswers
 pub mod LaningCounts
 pub mod LaningSteps
 pub mod TransposedTables

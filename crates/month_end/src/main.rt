@@ -4,70 +4,51 @@
 mod files;
 mod steps;
 
-use month_job::job::{Job, parse};
-use std::env;
+use files::{read_text, say, stop};
+use month_job::job::{Job, JobForm, parse};
+use month_job::request::{Request, UsageError, read_request};
 use std::process::ExitCode;
-use steps::run_job;
+use std::{env, io};
+use steps::Month;
 
 /// That a run ended early. What was wrong is printed by then.
 #[derive(Clone, Copy, Debug)]
 pub struct Stopped;
-
-/// What the command line asks for.
-#[derive(Drop)]
-enum Request {
-    Usage,
-    Wrong,
-    Run { file: String, all: bool },
-}
 
 const USAGE: &str = "usage: month_end JOB [--all]
 Corrects a price history by a month's corrections, as the job file JOB says, and writes the corrected history.
   --all   show every corrected cell, and not only the first ten and the last three
 Amounts are in minor units. Paths in the job are taken from the current folder.";
 
-/// Reads the command line.
-fn read_request(rt: &HostRuntime) -> Result<Request, Stopped> {
-    let mut words = match env::args(rt) {
-        Ok(words) => words,
-        Err(error) => return Err(files::stop(rt, "the command line", error)),
-    };
-    let _program = words.next();
-    let Some(file) = words.next() else {
-        return Ok(Request::Usage);
-    };
-    if file.as_str().starts_with('-') {
-        return Ok(Request::Wrong);
-    }
-    let Some(second) = words.next() else {
-        return Ok(Request::Run { file, all: false });
-    };
-    if second.as_str() != "--all" || words.next().is_some() {
-        return Ok(Request::Wrong);
-    }
-    Ok(Request::Run { file, all: true })
+/// The words of the command line.
+fn read_words(rt: &HostRuntime) -> io::Result<Vec<String>> {
+    Ok(env::args(rt)?.collect(rt.alloc())?)
 }
 
 /// Reads the job file.
 fn read_job(rt: &HostRuntime, file: &str) -> Result<Job, Stopped> {
-    let text = files::read_text(rt, file)?;
-    match parse(rt.alloc(), text.as_str()) {
-        Ok(job) => Ok(job),
-        Err(error) => Err(files::stop(rt, file, error)),
-    }
+    let text = read_text(rt, file)?;
+    parse(rt.alloc(), JobForm::Whole, text.as_str()).map_err(|error| stop(rt, file, error))
 }
 
 /// Does what the command line asks for.
 fn run(rt: &HostRuntime) -> Result<(), Stopped> {
-    match read_request(rt)? {
-        Request::Usage => files::say(rt, USAGE),
-        Request::Wrong => {
+    let words = read_words(rt).map_err(|error| stop(rt, "the command line", error))?;
+    match read_request(&words) {
+        Ok(Some(Request { file, all })) => {
+            let job = read_job(rt, file)?;
+            let month = Month {
+                rt,
+                job_file: file,
+                job: &job,
+                all,
+            };
+            month.run()
+        }
+        Ok(None) => say(rt, USAGE),
+        Err(UsageError) => {
             let _ = eprintln!(rt; "{USAGE}");
             Err(Stopped)
-        }
-        Request::Run { file, all } => {
-            let job = read_job(rt, file.as_str())?;
-            run_job(rt, file.as_str(), &job, all)
         }
     }
 }

@@ -1,5 +1,6 @@
+pub mod Words
 pub mod Encoding
 pub mod LineCount
-pub mod Adding
 pub mod Walks
 pub mod Chunked
+pub mod Parts

@@ -22,12 +22,13 @@ unfolding encode
 newlines_first c bs rest is e = ap newlines e ∙ ap (λ d. newlines (encode d ++ rest)) (eqb-true c 10 is)
 
 pub ahead_more :
-    (text w x rest : List ℕ) (number : ℕ)
+    (text w x rest : List ℕ) (number next : ℕ)
     → length rest < length w
     → IsFirstLine w x rest
+    → next ≡ number + 1
     → Ahead text w number
-    → Ahead text rest (number + 1)
-ahead_more text w x rest number shorter h old =
+    → Ahead text rest next
+ahead_more text w x rest number next shorter h is old =
     let n = h.0 in
     let long : length (drop n w) ≡ length w - n = length-drop n w in
     let less : 0 < length rest → newlines rest + 1 ≤ newlines w =
@@ -41,5 +42,5 @@ ahead_more text w x rest number shorter h old =
       most = omega (arith, old.before (omega arith));
     }
 
-pub ahead_none : (text rest : List ℕ) → rest ≡ text → Ahead text rest 0
-ahead_none text rest e = record { short = omega (arith, ap length e); before = λ some. omega (arith, ap newlines e); most = omega arith }
+pub ahead_none : (text rest : List ℕ) (number : ℕ) → rest ≡ text → number ≡ 0 → Ahead text rest number
+ahead_none text rest number e none = record { short = omega (arith, ap length e); before = λ some. omega (arith, ap newlines e); most = omega arith }

@@ -42,6 +42,11 @@ told (Some after) before = Corrected before after
 abbrev pub answer : Column ℤ → List ℤ → ℕ → Answer
 answer column cells row = cond (nat_lt row (length cells)) (told (patch_at column row) (slice_index_or cells row (pos 0))) NoSuchRow
 
+-- the same by the row's amount before, which is none where there is no such row
+abbrev pub answer_for : Column ℤ → Option ℤ → ℕ → Answer
+answer_for column None row = NoSuchRow
+answer_for column (Some before) row = told (patch_at column row) before
+
 -- the correction is that of the patch at a place
 pub record IsCorrection (column : Column ℤ) (cells : List ℤ) (place : ℕ) (c : Correction) : Type 0 where
   pub row_is : c.row ≡ row_at column place

@@ -2,3 +2,4 @@ pub mod Cells
 pub mod Jobs
 pub mod Corrected
 pub mod Reports
+pub mod Requests

@@ -1,9 +1,10 @@
 //! Cells of 64 bits: signed numbers in two's complement, eight bytes each, the lowest byte first.
-ghost use Rattle.std.specs.Prelude.{◌≡◌, ℕ, ◌+◌, ◌*◌, ◌%◌, ◌<◌, ◌≤◌, length, pos, IfOk, Err, vec_len, OnOk, ◌≢◌};
-ghost use Rattle.month_job.specs.Cells.{cell, CellsFrom, SameBelow};
+ghost use Rattle.std.specs.Prelude.{◌≡◌, ◌+◌, ◌*◌, ◌%◌, length, IfOk, Err, vec_len, MatchResult, OnOk, ◌≢◌};
+ghost use Rattle.month_job.specs.Cells.{CellsFrom, SameBelow};
 ghost use Rattle.month_job.specs.declared.cells.CellsError.TheVariants.{Length, Memory};
 
 use std::alloc::{AllocError, AllocFailed, Global};
+use std::error::Error;
 use std::fmt;
 
 /// How many bytes a cell takes.
@@ -22,13 +23,14 @@ impl fmt::Display for CellsError {
     fn fmt<W: fmt::Write>(&self, f: &mut fmt::Formatter<W>) -> fmt::Result {
         match self {
             CellsError::Length(bytes) => {
-                let n = *bytes;
-                write!(f, "it has {n} bytes, which is no multiple of 8")
+                write!(f, "it has {bytes} bytes, which is no multiple of 8")
             }
             CellsError::Memory => write!(f, "there is not enough memory"),
         }
     }
 }
+
+impl Error for CellsError {}
 
 impl From<AllocError> for CellsError {
     ghost from_gives = { λ _ r. r ≡ Memory };
@@ -46,22 +48,14 @@ impl<T: Drop> From<AllocFailed<T>> for CellsError {
     }
 }
 
-/// The cell at a place, where all its bytes are there.
-fn read_cell(bytes: &[u8], place: usize) -> i64
-    requires { 8 * place + 8 ≤ length bytes.now }
-    ensures { result ≡ cell bytes.now place }
+/// How many cells a file of so many bytes has. A number of bytes that is no multiple of eight is refused.
+pub fn cell_count(bytes: u64) -> Result<u64, CellsError>
+    ensures { MatchResult result (λ n. 8 * n ≡ bytes) (λ e. (e ≡ Length bytes) × (bytes % 8 ≢ 0)) }
 {
-    let p = CELL_BYTES * place;
-    i64::from_le_bytes([
-        bytes[p],
-        bytes[p + 1],
-        bytes[p + 2],
-        bytes[p + 3],
-        bytes[p + 4],
-        bytes[p + 5],
-        bytes[p + 6],
-        bytes[p + 7],
-    ])
+    if bytes % 8 != 0 {
+        return Err(CellsError::Length(bytes as usize));
+    }
+    Ok(bytes / 8)
 }
 
 /// Appends the cells of `bytes` to `cells`, and answers how many they are.
@@ -72,14 +66,14 @@ pub fn append(cells: &mut Vec<i64>, bytes: &[u8]) -> Result<usize, CellsError>
     ensures kept { OnOk result (SameBelow (vec_len cells.old) cells.new.items cells.old.items) }
     ensures refused { (length bytes.now % 8 ≢ 0) → (result ≡ Err (Length (length bytes.now))) × (cells.new ≡ cells.old) }
 {
-    if bytes.len() % CELL_BYTES != 0 {
+    let (parts, rest) = bytes.as_chunks::<CELL_BYTES>();
+    if !rest.is_empty() {
         return Err(CellsError::Length(bytes.len()));
     }
-    let count = bytes.len() / CELL_BYTES;
-    for place in 0..count {
-        cells.push(read_cell(bytes, place))?;
+    for part in parts {
+        cells.push(i64::from_le_bytes(*part))?;
     }
-    Ok(count)
+    Ok(parts.len())
 }
 
 /// The cells of `bytes`.

@@ -5,4 +5,5 @@ pub mod cells;
 pub mod correct;
 pub mod job;
 pub mod report;
+pub mod request;
 pub mod totals;

@@ -1,7 +1,7 @@
 //! The lines that a run prints.
 ghost use Rattle.std.specs.Prelude.{◌≡◌, ◌+◌, ◌-◌, ◌<◌, ◌≤◌, true, false, ◌++◌, IfOk, string_bytes, codes, decimal};
 ghost use Rattle.std.specs.Fmt.{signed_decimal};
-ghost use Rattle.month_job.specs.Reports.{lookup_text};
+ghost use Rattle.month_job.specs.Reports.{lookup_text, shown_at};
 
 use crate::correct::Answer;
 use std::alloc::{AllocError, Global};
@@ -37,8 +37,34 @@ pub fn folded(count: usize, all: bool) -> Fold
     }
 }
 
+/// What is shown for a line of a list.
+#[derive(Clone, Copy, PartialEq, Eq, Debug)]
+pub enum Shown {
+    /// The line.
+    Line,
+    /// That so many lines are left out, this one the first of them.
+    LeftOut(usize),
+    /// Nothing: the line is left out, and that is said already.
+    Nothing,
+}
+
+impl Fold {
+    /// What is shown for the line at a place.
+    pub fn shown(self, place: usize) -> Shown
+        ensures { result ≡ shown_at self place }
+    {
+        if place < self.head || self.tail <= place {
+            return Shown::Line;
+        }
+        if place == self.head {
+            return Shown::LeftOut(self.tail - self.head);
+        }
+        Shown::Nothing
+    }
+}
+
 /// A file of the history and its cells.
-pub fn history_line(heap: Global, file: &str, cells: usize) -> Result<String, AllocError>
+pub fn history_line(heap: Global, file: &str, cells: u64) -> Result<String, AllocError>
     ensures { IfOk result (λ s. string_bytes s ≡ codes "history " ++ (file.now ++ (codes ": " ++ (decimal cells ++ codes " cells")))) }
 {
     format!(in heap; "history {file}: {cells} cells")
@@ -48,7 +74,7 @@ pub fn history_line(heap: Global, file: &str, cells: usize) -> Result<String, Al
 pub fn history_total(
     heap: Global,
     files: usize,
-    cells: usize,
+    cells: u64,
     total: i128,
 ) -> Result<String, AllocError>
     ensures { IfOk result (λ s. string_bytes s ≡ codes "history: " ++ (decimal cells ++ (codes " cells in " ++ (decimal files ++ (codes " files, total " ++ signed_decimal total))))) }
@@ -87,6 +113,25 @@ pub fn chunk_data_line(
     format!(in heap; "chunk data: {file}, width {width}, within {within}")
 }
 
+/// The rows that the job asks for.
+pub fn work_line(heap: Global, first: u64, end: u64, patches: u64) -> Result<String, AllocError>
+    ensures { IfOk result (λ s. string_bytes s ≡ codes "work: rows " ++ (decimal first ++ (codes " to " ++ (decimal end ++ (codes ", " ++ (decimal patches ++ codes " patches")))))) }
+{
+    format!(in heap; "work: rows {first} to {end}, {patches} patches")
+}
+
+/// How large the work's lane tables are.
+pub fn lanes_line(
+    heap: Global,
+    lanes: u64,
+    offsets: usize,
+    entries: usize,
+) -> Result<String, AllocError>
+    ensures { IfOk result (λ s. string_bytes s ≡ codes "lanes: " ++ (decimal lanes ++ (codes " lanes, " ++ (decimal offsets ++ (codes " offsets, " ++ (decimal entries ++ codes " entries")))))) }
+{
+    format!(in heap; "lanes: {lanes} lanes, {offsets} offsets, {entries} entries")
+}
+
 /// The answer to a look-up.
 pub fn lookup_line(heap: Global, row: u64, answer: Answer) -> Result<String, AllocError>
     ensures { IfOk result (λ s. string_bytes s ≡ lookup_text row answer) }
@@ -123,13 +168,23 @@ pub fn hidden_line(heap: Global, count: usize) -> Result<String, AllocError>
     format!(in heap; "  {count} more, not shown; run with --all to see every cell")
 }
 
-/// That the corrected history is in its file.
-pub fn written_line(
+/// What the closed run tells, beside how many patches the work has.
+pub fn closed_line(
     heap: Global,
-    file: &str,
-    cells: usize,
-    bytes: usize,
+    rows: u64,
+    chunks: u64,
+    count: u64,
+    patches: u64,
 ) -> Result<String, AllocError>
+    ensures { IfOk result (λ s. string_bytes s ≡ codes "closed run: " ++ (decimal rows ++ (codes " rows in " ++ (decimal chunks ++ (codes " chunks, " ++ (decimal count ++ (codes " cells replaced; the work has " ++ (decimal patches ++ codes " patches")))))))) }
+{
+    format!(in heap;
+        "closed run: {rows} rows in {chunks} chunks, {count} cells replaced; the work has {patches} patches"
+    )
+}
+
+/// That the corrected history is in its file.
+pub fn written_line(heap: Global, file: &str, cells: u64, bytes: u64) -> Result<String, AllocError>
     ensures { IfOk result (λ s. string_bytes s ≡ codes "written: " ++ (file.now ++ (codes ", " ++ (decimal cells ++ (codes " cells, " ++ (decimal bytes ++ codes " bytes")))))) }
 {
     format!(in heap; "written: {file}, {cells} cells, {bytes} bytes")
@@ -138,8 +193,8 @@ pub fn written_line(
 /// The line to sign.
 pub fn closing_line(
     heap: Global,
-    patches: usize,
-    cells: usize,
+    patches: u64,
+    cells: u64,
     before: i128,
     after: i128,
 ) -> Result<String, AllocError>

@@ -1,5 +1,5 @@
 //! Tests of `month_job::cells`.
-use month_job::cells::{CellsError, decode, encode};
+use month_job::cells::{CellsError, cell_count, decode, encode};
 use std::test::Fail;
 
 #[test]
@@ -18,6 +18,18 @@ fn seven_bytes(rt: HostRuntime) -> Result<(), Fail> {
         Ok(_) => Err(Fail::new("seven bytes are read as cells")),
         Err(error) => {
             assert_eq!(rt; error, CellsError::Length(7));
+            Ok(())
+        },
+    }
+}
+
+#[test]
+fn cells_of_a_file(rt: HostRuntime) -> Result<(), Fail> {
+    assert_eq!(rt; cell_count(24000)?, 3000);
+    match cell_count(12) {
+        Ok(_) => Err(Fail::new("twelve bytes are counted as cells")),
+        Err(error) => {
+            assert_eq!(rt; error, CellsError::Length(12));
             Ok(())
         },
     }

@@ -6,4 +6,6 @@ mod cells;
 #[cfg(test)]
 mod job;
 #[cfg(test)]
+mod request;
+#[cfg(test)]
 mod totals;

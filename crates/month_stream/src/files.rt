@@ -1,11 +1,14 @@
-//! Files that are read and written, and lines that are printed. Each failure is told on standard error.
+//! Files that are read and written, and lines that are printed. Each program has its own such functions, since a contract could
+//! promise nothing of them.
+//! Each failure is told on standard error where it happens, and so before the output is removed.
+//! A file is named after the runtime that reaches it, as in the functions of `std::fs`.
 use crate::Stopped;
+use month_job::cells::{decode, encode};
 use std::alloc::AllocError;
 use std::fmt::Display;
 use std::fs;
 use std::fs::File;
 use std::io::Write;
-use stream_job::cells::{decode, encode};
 
 /// Tells what is wrong, and with which file.
 pub fn stop<D: Display + Drop>(rt: &HostRuntime, file: &str, what: D) -> Stopped {
@@ -15,94 +18,83 @@ pub fn stop<D: Display + Drop>(rt: &HostRuntime, file: &str, what: D) -> Stopped
 
 /// Prints a line.
 pub fn say<D: Display + Drop>(rt: &HostRuntime, line: D) -> Result<(), Stopped> {
-    match rt.println(line) {
-        Ok(()) => Ok(()),
-        Err(error) => Err(stop(rt, "standard output", error)),
-    }
+    rt.println(line)
+        .map_err(|error| stop(rt, "standard output", error))
 }
 
 /// Prints a line that took memory to make.
 pub fn say_line(rt: &HostRuntime, line: Result<String, AllocError>) -> Result<(), Stopped> {
-    match line {
-        Ok(text) => say(rt, text),
-        Err(error) => Err(stop(rt, "standard output", error)),
-    }
+    say(
+        rt,
+        line.map_err(|error| stop(rt, "standard output", error))?,
+    )
 }
 
 /// The text of a file.
 pub fn read_text(rt: &HostRuntime, file: &str) -> Result<String, Stopped> {
-    match fs::read_to_string(rt, file) {
-        Ok(text) => Ok(text),
-        Err(error) => Err(stop(rt, file, error)),
-    }
+    fs::read_to_string(rt, file).map_err(|error| stop(rt, file, error))
 }
 
 /// The bytes of a file.
 pub fn read_bytes(rt: &HostRuntime, file: &str) -> Result<Vec<u8>, Stopped> {
-    match fs::read(rt, file) {
-        Ok(bytes) => Ok(bytes),
-        Err(error) => Err(stop(rt, file, error)),
-    }
+    fs::read(rt, file).map_err(|error| stop(rt, file, error))
 }
 
 /// The cells of a file.
 pub fn read_cells(rt: &HostRuntime, file: &str) -> Result<Vec<i64>, Stopped> {
     let bytes = read_bytes(rt, file)?;
-    match decode(rt.alloc(), &bytes) {
-        Ok(cells) => Ok(cells),
-        Err(error) => Err(stop(rt, file, error)),
-    }
+    decode(rt.alloc(), &bytes).map_err(|error| stop(rt, file, error))
 }
 
 /// Refuses a file to write that is there already.
 pub fn refuse_old_output(rt: &HostRuntime, file: &str) -> Result<(), Stopped> {
-    match fs::exists(rt, file) {
-        Ok(false) => Ok(()),
-        Ok(true) => Err(stop(
+    if fs::exists(rt, file).map_err(|error| stop(rt, file, error))? {
+        return Err(stop(
             rt,
             file,
             "the file to write is there already; name another, or move it away",
-        )),
-        Err(error) => Err(stop(rt, file, error)),
+        ));
     }
+    Ok(())
 }
 
-/// Makes a new file. A file that is there already is left as it is.
-pub fn create_new(rt: &HostRuntime, file: &str) -> Result<File, Stopped> {
-    match File::create_new(rt, file) {
-        Ok(output) => Ok(output),
-        Err(error) => Err(stop(rt, file, error)),
-    }
+/// A file that is written: its name, and the open file.
+#[derive(Drop)]
+pub struct Output<'a> {
+    rt: &'a HostRuntime,
+    name: &'a str,
+    file: File,
 }
 
-/// Writes cells to an open file.
-pub fn write_cells(
-    rt: &HostRuntime,
-    file: &str,
-    output: &mut File,
-    cells: &[i64],
-) -> Result<(), Stopped> {
-    let bytes = match encode(rt.alloc(), cells) {
-        Ok(bytes) => bytes,
-        Err(error) => return Err(stop(rt, file, error)),
-    };
-    match output.write_all(&bytes) {
-        Ok(()) => Ok(()),
-        Err(error) => Err(stop(rt, file, error)),
+impl<'a> Output<'a> {
+    /// Makes a new file. A file that is there already is left as it is.
+    pub fn create_new(rt: &'a HostRuntime, name: &'a str) -> Result<Output<'a>, Stopped> {
+        let file = File::create_new(rt, name).map_err(|error| stop(rt, name, error))?;
+        Ok(Output { rt, name, file })
     }
-}
 
-/// Brings what was written through to the disk.
-pub fn sync(rt: &HostRuntime, file: &str, output: &File) -> Result<(), Stopped> {
-    match output.sync_all() {
-        Ok(()) => Ok(()),
-        Err(error) => Err(stop(rt, file, error)),
+    /// Tells what is wrong with the file.
+    fn stop<D: Display + Drop>(&self, what: D) -> Stopped {
+        stop(self.rt, self.name, what)
     }
-}
 
-/// Removes a file that was written.
-pub fn remove(rt: &HostRuntime, file: &str) {
-    if let Err(error) = fs::remove_file(rt, file) {
-        let _ = stop(rt, file, error);
+    /// Writes cells.
+    pub fn write_cells(&mut self, cells: &[i64]) -> Result<(), Stopped> {
+        let bytes = encode(self.rt.alloc(), cells).map_err(|error| self.stop(error))?;
+        self.file
+            .write_all(&bytes)
+            .map_err(|error| self.stop(error))
+    }
+
+    /// Brings what was written through to the disk.
+    pub fn sync(&self) -> Result<(), Stopped> {
+        self.file.sync_all().map_err(|error| self.stop(error))
+    }
+
+    /// Removes the file.
+    pub fn remove(&self) {
+        if let Err(error) = fs::remove_file(self.rt, self.name) {
+            let _ = self.stop(error);
+        }
     }
 }

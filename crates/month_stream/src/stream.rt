@@ -1,28 +1,55 @@
 //! The run through the work's rows: block by block, from the history to the output.
 use crate::Stopped;
-use crate::files::{create_new, remove, say, say_line, stop, sync, write_cells};
+use crate::files::{Output, say, say_line};
 use crate::history::{History, TOO_LARGE};
+use crate::steps::Month;
+use month_job::correct::Correction;
+use month_job::report;
+use month_job::report::{Fold, Shown, folded};
+use month_job::totals::add_total;
 use patches::chunks::chunk_total;
 use patches::patch_set::PatchSet;
-use runs::attempts::{Attempt, Entry, Outcome, Run};
+use runs::attempts::{Attempt, AttemptError, Entry, Run};
 use runs::run::ClosedRun;
-use std::fs::File;
-use stream_job::job::Job;
-use stream_job::report;
-use stream_job::report::{Fold, Shown};
-use stream_job::totals::add_total;
-use stream_job::work::{Correction, block_count, check_accepted, next_correction, plan};
+use stream_job::work::{block_count, check_accepted, next_correction, plan};
 
-/// What a run is for: the job, the first row of the work, its phase, its number of rows, and which of its corrected cells are
-/// shown.
-#[derive(Clone, Copy)]
-pub struct Task<'a> {
-    pub job_file: &'a str,
-    pub job: &'a Job,
-    pub first: u64,
-    pub phase: u64,
-    pub rows: u64,
-    pub fold: Fold,
+/// A run that is ended where it is let go: one that is open then is abandoned.
+struct Held(Run);
+
+impl Drop for Held {
+    fn drop(self) {
+        let Held(run) = self;
+        match run {
+            Run::Open(open) => open.abandon(),
+            Run::Closed(_closed) => {}
+            Run::Unopened | Run::Abandoned => {}
+        }
+    }
+}
+
+impl Held {
+    /// Makes attempts with the run, as `Run::attempt_all` does.
+    fn attempt_all<S: PatchSet<Value = i64>>(
+        self,
+        set: &S,
+        entries: &mut [Entry],
+        cells: &mut [i64],
+    ) -> Held {
+        let Held(run) = self;
+        Held(run.attempt_all(set, entries, cells))
+    }
+
+    /// The run where it is closed.
+    fn closed(self) -> Option<ClosedRun> {
+        let Held(run) = self;
+        match run {
+            Run::Closed(closed) => Some(closed),
+            other => {
+                drop(Held(other));
+                None
+            }
+        }
+    }
 }
 
 /// A block of the work: its steps, its first row, and its cells before and after.
@@ -34,250 +61,190 @@ struct Part {
     cells: Vec<i64>,
 }
 
-/// How far a run has come: rows, corrected cells, and the totals before and after.
+/// How far a run has come: rows, and the totals before and after.
 #[derive(Clone, Copy)]
 struct Progress {
     rows: u64,
-    corrected: usize,
     before: i128,
     after: i128,
 }
 
-/// Ends a run that is not to go on.
-fn end(run: Run) {
-    match run {
-        Run::Unopened => {}
-        Run::Open(open) => open.abandon(),
-        Run::Closed(_closed) => {}
-        Run::Abandoned => {}
+impl Progress {
+    /// How far the run has come past a block; none where a total does not fit.
+    fn past(self, part: &Part) -> Option<Progress> {
+        Some(Progress {
+            rows: self.rows.saturating_add(part.cells.len() as u64),
+            before: add_total(self.before, &part.before)?,
+            after: add_total(self.after, &part.cells)?,
+        })
     }
 }
 
-/// Makes one attempt that takes no cells. Where it is not accepted, the run has ended.
-fn attempt<S: PatchSet<Value = i64>>(
-    rt: &HostRuntime,
-    task: Task<'_>,
-    set: &S,
-    run: Run,
-    attempt: Attempt,
-) -> Result<Run, Stopped> {
-    let mut entries = [Entry {
-        attempt,
-        outcome: Outcome::NotMade,
-    }];
-    let mut no_cells: [i64; 0] = [];
-    let run = run.attempt_all(set, &mut entries, &mut no_cells);
-    match check_accepted(&entries) {
-        Ok(()) => Ok(run),
-        Err(error) => {
-            end(run);
-            Err(stop(rt, task.job_file, error))
+/// The correction of the work's rows: the job, the rows' patches, the first row, its phase, and which of the corrected cells
+/// are shown.
+#[derive_where(Clone, Copy)]
+pub struct Stream<'a, S> {
+    month: Month<'a>,
+    set: &'a S,
+    first: u64,
+    phase: u64,
+    fold: Fold,
+}
+
+impl<'a, S: PatchSet<Value = i64>> Stream<'a, S> {
+    /// The correction of a set's rows, the first of which is the row `first` of a column, whose offset is given too.
+    pub fn new(month: Month<'a>, offset: u64, first: u64, set: &'a S) -> Stream<'a, S> {
+        Stream {
+            month,
+            set,
+            first,
+            phase: offset.saturating_add(first),
+            fold: folded(set.below(set.rows()) as usize, month.all),
         }
     }
-}
 
-/// Reads a block of the work.
-fn read_part(
-    rt: &HostRuntime,
-    task: Task<'_>,
-    block: u64,
-    history: &mut History<'_>,
-    progress: Progress,
-) -> Result<Part, Stopped> {
-    let planned = match plan(rt.alloc(), block, task.phase, task.rows) {
-        Ok(planned) => planned,
-        Err(error) => return Err(stop(rt, task.job_file, error)),
-    };
-    let before = history.read(rt, planned.cells)?;
-    let cells = match Vec::from_slice(rt.alloc(), &before) {
-        Ok(cells) => cells,
-        Err(error) => return Err(stop(rt, task.job_file, error)),
-    };
-    Ok(Part {
-        entries: planned.entries,
-        first: progress.rows,
-        before,
-        cells,
-    })
-}
-
-/// Shows a corrected cell, or says that some are not shown.
-fn say_cell(
-    rt: &HostRuntime,
-    task: Task<'_>,
-    place: usize,
-    cell: Correction,
-) -> Result<(), Stopped> {
-    let heap = rt.alloc();
-    match task.fold.shown(place) {
-        Shown::Line => {
-            let row = task.first.saturating_add(cell.row);
-            say_line(rt, report::cell_line(heap, row, cell.before, cell.after))
-        }
-        Shown::LeftOut(count) => say_line(rt, report::hidden_line(heap, count)),
-        Shown::Nothing => Ok(()),
+    /// Makes one attempt that takes no cells.
+    fn attempt(&self, run: Held, attempt: Attempt) -> Result<Held, Stopped> {
+        let mut entries = [Entry {
+            attempt,
+            outcome: Err(AttemptError::NotMade),
+        }];
+        let run = run.attempt_all(self.set, &mut entries, &mut []);
+        check_accepted(&entries).map_err(|error| self.month.stop(error))?;
+        Ok(run)
     }
-}
 
-/// Shows the corrected cells of a block, and answers how many they are, with those before.
-fn say_cells<S: PatchSet<Value = i64>>(
-    rt: &HostRuntime,
-    task: Task<'_>,
-    set: &S,
-    part: &Part,
-    corrected: usize,
-) -> Result<usize, Stopped> {
-    let mut row = part.first;
-    let mut place = corrected;
-    for _ in 0..part.before.len() {
-        let found = next_correction(set, row, part.first, &part.before, &part.cells);
-        let Some(cell) = found else {
-            return Ok(place);
-        };
-        say_cell(rt, task, place, cell)?;
-        place = place.saturating_add(1);
-        row = cell.row.saturating_add(1);
+    /// Reads a block of the work.
+    fn read_part(
+        &self,
+        block: u64,
+        history: &mut History<'_>,
+        first: u64,
+    ) -> Result<Part, Stopped> {
+        let heap = self.month.rt.alloc();
+        let planned = plan(heap, block, self.phase, self.set.rows()).map_err(|error| self
+            .month
+            .stop(error))?;
+        let before = history.read(planned.cells)?;
+        let cells = before.clone().map_err(|error| self.month.stop(error))?;
+        Ok(Part {
+            entries: planned.entries,
+            first,
+            before,
+            cells,
+        })
     }
-    Ok(place)
-}
 
-/// Writes a block whose steps were all accepted, adds it up and shows its corrected cells.
-fn finish_part<S: PatchSet<Value = i64>>(
-    rt: &HostRuntime,
-    task: Task<'_>,
-    set: &S,
-    part: &Part,
-    output: &mut File,
-    progress: Progress,
-) -> Result<Progress, Stopped> {
-    if let Err(error) = check_accepted(&part.entries) {
-        return Err(stop(rt, task.job_file, error));
-    }
-    write_cells(rt, task.job.output.as_str(), output, &part.cells)?;
-    let (Some(before), Some(after)) = (
-        add_total(progress.before, &part.before),
-        add_total(progress.after, &part.cells),
-    ) else {
-        return Err(stop(rt, task.job_file, TOO_LARGE));
-    };
-    Ok(Progress {
-        rows: progress.rows.saturating_add(part.cells.len() as u64),
-        corrected: say_cells(rt, task, set, part, progress.corrected)?,
-        before,
-        after,
-    })
-}
-
-/// Takes an open run through all its blocks. Where something stops it, the run has ended.
-fn go_through<S: PatchSet<Value = i64>>(
-    rt: &HostRuntime,
-    task: Task<'_>,
-    set: &S,
-    opened: Run,
-    output: &mut File,
-    progress: &mut Progress,
-) -> Result<Run, Stopped> {
-    let mut run = opened;
-    let mut history = match start_history(rt, task) {
-        Ok(history) => history,
-        Err(stopped) => {
-            end(run);
-            return Err(stopped);
-        }
-    };
-    for block in 0..block_count(task.phase, task.rows) {
-        let mut part = match read_part(rt, task, block, &mut history, *progress) {
-            Ok(part) => part,
-            Err(stopped) => {
-                end(run);
-                return Err(stopped);
+    /// Shows the corrected cell at a place among all of them, or says that some are not shown.
+    fn say_cell(&self, place: usize, cell: Correction) -> Result<(), Stopped> {
+        let rt = self.month.rt;
+        let heap = rt.alloc();
+        match self.fold.shown(place) {
+            Shown::Line => {
+                let row = self.first.saturating_add(cell.row);
+                say_line(rt, report::cell_line(heap, row, cell.before, cell.after))
             }
+            Shown::LeftOut(count) => say_line(rt, report::hidden_line(heap, count)),
+            Shown::Nothing => Ok(()),
+        }
+    }
+
+    /// Shows the corrected cells of a block.
+    fn say_cells(&self, part: &Part) -> Result<(), Stopped> {
+        let mut row = part.first;
+        let mut place = self.set.below(row);
+        while let Some(cell) = next_correction(
+            self.set,
+            row,
+            part.first,
+            &part.before,
+            &part.cells,
+        ) {
+            self.say_cell(place as usize, cell)?;
+            place += 1;
+            row = cell.row + 1;
+        }
+        Ok(())
+    }
+
+    /// Writes a block whose steps were all accepted, adds it up and shows its corrected cells.
+    fn finish_part(
+        &self,
+        part: &Part,
+        output: &mut Output<'_>,
+        progress: Progress,
+    ) -> Result<Progress, Stopped> {
+        check_accepted(&part.entries).map_err(|error| self.month.stop(error))?;
+        output.write_cells(&part.cells)?;
+        let further = progress
+            .past(part)
+            .ok_or_else(|| self.month.stop(TOO_LARGE))?;
+        self.say_cells(part)?;
+        Ok(further)
+    }
+
+    /// Takes an open run through all its blocks.
+    fn go_through(
+        &self,
+        opened: Held,
+        output: &mut Output<'_>,
+    ) -> Result<(Held, Progress), Stopped> {
+        let mut run = opened;
+        let mut progress = Progress {
+            rows: 0,
+            before: 0,
+            after: 0,
         };
-        run = run.attempt_all(set, &mut part.entries, &mut part.cells);
-        match finish_part(rt, task, set, &part, output, *progress) {
-            Ok(further) => *progress = further,
-            Err(stopped) => {
-                end(run);
-                return Err(stopped);
-            }
+        let Month { rt, job, .. } = self.month;
+        let mut history = History::from_row(rt, &job.history, self.first)?;
+        for block in 0..block_count(self.phase, self.set.rows()) {
+            let mut part = self.read_part(block, &mut history, progress.rows)?;
+            run = run.attempt_all(self.set, &mut part.entries, &mut part.cells);
+            progress = self.finish_part(&part, output, progress)?;
         }
+        Ok((run, progress))
     }
-    Ok(run)
-}
 
-/// The history from the work's first row on.
-fn start_history<'a>(rt: &HostRuntime, task: Task<'a>) -> Result<History<'a>, Stopped> {
-    let mut history = History::open(rt, &task.job.history)?;
-    history.skip(rt, task.first)?;
-    Ok(history)
-}
-
-/// Says what the closed run tells, that the file is written, and closes with the line to sign.
-fn close(
-    rt: &HostRuntime,
-    task: Task<'_>,
-    closed: ClosedRun,
-    patches: u64,
-    progress: Progress,
-) -> Result<(), Stopped> {
-    let heap = rt.alloc();
-    let chunks = chunk_total(task.phase, task.rows);
-    let (rows, count) = (closed.rows(), closed.count());
-    say_line(rt, report::closed_line(heap, rows, chunks, count, patches))?;
-    let bytes = progress.rows.saturating_mul(8);
-    say_line(
-        rt,
-        report::written_line(heap, task.job.output.as_str(), progress.rows, bytes),
-    )?;
-    say_line(
-        rt,
-        report::closing_line(heap, count, rows, progress.before, progress.after),
-    )
-}
-
-/// Opens a run, goes through the work, closes the run and says what it tells.
-fn stream<S: PatchSet<Value = i64>>(
-    rt: &HostRuntime,
-    task: Task<'_>,
-    set: &S,
-    output: &mut File,
-) -> Result<(), Stopped> {
-    say(rt, "corrected cells:")?;
-    let mut progress = Progress {
-        rows: 0,
-        corrected: 0,
-        before: 0,
-        after: 0,
-    };
-    let opening = Attempt::Open {
-        rows: task.rows,
-        phase: task.phase,
-    };
-    let opened = attempt(rt, task, set, Run::new(), opening)?;
-    let through = go_through(rt, task, set, opened, output, &mut progress)?;
-    match attempt(rt, task, set, through, Attempt::Close)? {
-        Run::Closed(closed) => {
-            sync(rt, task.job.output.as_str(), output)?;
-            close(rt, task, closed, set.below(set.rows()), progress)
-        }
-        other => {
-            end(other);
-            Err(stop(rt, task.job_file, "the run is not closed"))
-        }
+    /// Says what the closed run tells, that the file is written, and closes with the line to sign.
+    fn close(&self, closed: &ClosedRun, progress: Progress) -> Result<(), Stopped> {
+        let Month { rt, job, .. } = self.month;
+        let heap = rt.alloc();
+        let chunks = chunk_total(self.phase, self.set.rows());
+        let patches = self.set.below(self.set.rows());
+        let (rows, count) = (closed.rows(), closed.count());
+        say_line(rt, report::closed_line(heap, rows, chunks, count, patches))?;
+        let bytes = progress.rows.saturating_mul(8);
+        say_line(
+            rt,
+            report::written_line(heap, job.output.as_str(), progress.rows, bytes),
+        )?;
+        say_line(
+            rt,
+            report::closing_line(heap, count, rows, progress.before, progress.after),
+        )
     }
-}
 
-/// Corrects the work's rows into a new file, which is removed where anything stops the run.
-pub fn correct_history<S: PatchSet<Value = i64>>(
-    rt: &HostRuntime,
-    task: Task<'_>,
-    set: &S,
-) -> Result<(), Stopped> {
-    let name = task.job.output.as_str();
-    let mut output = create_new(rt, name)?;
-    let done = stream(rt, task, set, &mut output);
-    if done.is_err() {
-        remove(rt, name);
+    /// Opens a run, goes through the work, closes the run and says what it tells.
+    fn write(&self, output: &mut Output<'_>) -> Result<(), Stopped> {
+        say(self.month.rt, "corrected cells:")?;
+        let opening = Attempt::Open {
+            rows: self.set.rows(),
+            phase: self.phase,
+        };
+        let opened = self.attempt(Held(Run::new()), opening)?;
+        let (through, progress) = self.go_through(opened, output)?;
+        let closed = self
+            .attempt(through, Attempt::Close)?
+            .closed()
+            .ok_or_else(|| self.month.stop("the run is not closed"))?;
+        output.sync()?;
+        self.close(&closed, progress)
     }
-    done
+
+    /// Corrects the work's rows into a new file, which is removed where anything stops the run.
+    pub fn run(&self) -> Result<(), Stopped> {
+        let Month { rt, job, .. } = self.month;
+        let mut output = Output::create_new(rt, job.output.as_str())?;
+        self.write(&mut output).inspect_err(|_| output.remove())
+    }
 }

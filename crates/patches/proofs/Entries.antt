@@ -1,13 +1,15 @@
 -- Chunk entries, and how many indices lie before a chunk.
-use Rattle.std.proofs.Common.{◌≡◌, ℕ, ◌+◌, ◌<◌, ◌≤◌, true, ltb, Some, None, Option, unwrap_or, sym, ap, ◌∙◌, subst, inl, inr, arith}
+use Rattle.std.proofs.Common.{◌≡◌, ℕ, ◌+◌, ◌<◌, ◌≤◌, true, ltb, Some, None, sym, ap, ◌∙◌, subst, inl, inr, arith}
 use Rattle.std.proofs.lemmas.Bool.{cases_lt, cond-true, cond-false, lt-ltb, le-ltb}
 use Rattle.search_sorted.specs.Numbers.{count, number, got}
+use Rattle.patches.specs.declared.column.Column.{Column}
 use Rattle.patches.specs.declared.table.ChunkOffsets.{ChunkOffsets}
 use Rattle.patches.specs.Chunks.{count_of_chunks, chunk_start}
 use Rattle.patches.specs.Indices.{count_under, Inside}
+use Rattle.patches.specs.Columns.{patches, index}
 use Rattle.patches.specs.Tables.{has_table, count_of_entries, entry, within}
 use Rattle.patches.proofs.Unders.{split_under}
-use Rattle.patches.proofs.Judges.{chunks_some, first_got}
+use Rattle.patches.proofs.Judges.{chunks_some}
 
 -- what came is the number at the place, or the place is past the end
 pub got_some : (f : ℕ → ℕ) (n i v : ℕ) → Some v ≡ got f n i → (i < n) × (v ≡ f i)
@@ -43,24 +45,23 @@ module _ (f : ℕ → ℕ) (n offset rows : ℕ) (inside : Inside f n offset row
         after = λ k a b. absurd (omega arith);
       })
 
-module _ (f : ℕ → ℕ) (n offset rows : ℕ) (inside : Inside f n offset rows) (chunks : Option ChunkOffsets) (t : ChunkOffsets) (own : chunks ≡ Some t) (some : has_table chunks ≡ true → 0 < n) (tabled : has_table chunks ≡ true → count_of_entries chunks ≡ count_of_chunks offset rows) where
-  has : has_table chunks ≡ true
+-- what a column says of the chunk data that are its own
+module _ {V : Type 0} (c : Column V) (t : ChunkOffsets) (own : c.chunks ≡ Some t) where
+  has : has_table c.chunks ≡ true
   has = ap has_table own
 
-  pub own_rows : 0 < rows
-  own_rows = omega (arith, inside 0 (some has))
-
-  pub own_count : count t.entries ≡ count_of_chunks offset rows
-  own_count = sym (ap count_of_entries own) ∙ tabled has
-
-  pub own_first : unwrap_or (got (number t.entries) (count t.entries) 0) 0 ≡ number t.entries 0
-  own_first = first_got (number t.entries) (count t.entries) (omega (arith, own_count, own_rows, chunks_some offset rows own_rows))
+  pub own_count : count t.entries ≡ count_of_chunks c.offset c.rows
+  own_count = sym (ap count_of_entries own) ∙ c.tabled has
 
   -- an entry, less entry 0 and within, is the number of indices before its chunk
-  pub own_entry : ((c : ℕ) → 1 ≤ c → c < count_of_entries chunks → entry chunks c ≡ entry chunks 0 + within chunks + count_under f n (chunk_start offset c)) → (c : ℕ) → 1 ≤ c → c < count t.entries → number t.entries c ≡ number t.entries 0 + t.within + count_under f n (chunk_start offset c)
-  own_entry counted =
-      subst (λ o. (c : ℕ) → 1 ≤ c → c < count_of_entries o → entry o c ≡ entry o 0 + within o + count_under f n (chunk_start offset c)) own counted
+  own_entry : (k : ℕ) → 1 ≤ k → k < count t.entries → number t.entries k ≡ number t.entries 0 + t.within + count_under (index c) (patches c) (chunk_start c.offset k)
+  own_entry =
+      subst (λ o. (k : ℕ) → 1 ≤ k → k < count_of_entries o → entry o k ≡ entry o 0 + within o + count_under (index c) (patches c) (chunk_start c.offset k)) own c.counted
 
--- what entry 0, within and the indices come to
-pub own_low : (n bound : ℕ) (chunks : Option ChunkOffsets) (t : ChunkOffsets) → chunks ≡ Some t → entry chunks 0 + within chunks + n ≤ bound → number t.entries 0 + t.within + n ≤ bound
-own_low n bound chunks t own h = subst (λ o. entry o 0 + within o + n ≤ bound) own h
+  -- so is the entry that is found at a chunk
+  pub own_found : (k v : ℕ) → 1 ≤ k → Some v ≡ got (number t.entries) (count t.entries) k → v ≡ number t.entries 0 + t.within + count_under (index c) (patches c) (chunk_start c.offset k)
+  own_found k v h e = let at = got_some (number t.entries) (count t.entries) k v e in at.1 ∙ own_entry k h at.0
+
+  -- what entry 0, within and the indices come to
+  pub own_low : number t.entries 0 + t.within + patches c ≤ 8589934592
+  own_low = subst (λ o. entry o 0 + within o + patches c ≤ 8589934592) own c.low

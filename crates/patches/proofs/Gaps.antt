@@ -6,7 +6,8 @@ use Rattle.patches.specs.Indices.{count_under}
 use Rattle.patches.proofs.Unders.{split_under, under_split}
 
 module _ (f : ℕ → ℕ) (n : ℕ) (up : Ascending f n) where
-  climbs_from : (lo i : ℕ) → lo + i < n → f lo + i ≤ f (lo + i)
+  -- rising indices are at least as far apart as their places
+  pub climbs_from : (lo i : ℕ) → lo + i < n → f lo + i ≤ f (lo + i)
   climbs_from lo zero h = let e : lo + 0 ≡ lo = omega arith in rw e (omega arith)
   climbs_from lo (suc i) h =
       let e : lo + suc i ≡ suc (lo + i) = omega arith in

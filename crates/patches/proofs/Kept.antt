@@ -4,14 +4,16 @@ use Rattle.std.proofs.lemmas.Bool.{cases_lt, false≢true}
 use Rattle.search_sorted.specs.declared.packed.Packed.{Packed}
 use Rattle.search_sorted.specs.Packed.{Ascending}
 use Rattle.search_sorted.specs.Numbers.{count, number, got, PartOf}
+use Rattle.patches.specs.declared.column.Column.{Column}
 use Rattle.patches.specs.declared.table.ChunkOffsets.{ChunkOffsets}
 use Rattle.patches.specs.Chunks.{phase, count_of_chunks, chunk_start}
 use Rattle.patches.specs.Indices.{count_under, Inside}
+use Rattle.patches.specs.Columns.{patches, index}
 use Rattle.patches.specs.Tables.{has_table, count_of_entries, entry, within}
 use Rattle.patches.specs.Narrows.{first_kept, end_kept, KeptTable, KeepsTable}
 use Rattle.patches.proofs.Unders.{split_under, under_mono, under_le}
 use Rattle.patches.proofs.Judges.{chunks_some, first_got}
-use Rattle.patches.proofs.Entries.{under_first, own_first}
+use Rattle.patches.proofs.Entries.{under_first}
 use Rattle.patches.proofs.Gaps.{under_gap, under_part}
 
 module _ (f : ℕ → ℕ) (n offset rows : ℕ) (inside : Inside f n offset rows) (t : Option ChunkOffsets) (tabled : has_table t ≡ true → count_of_entries t ≡ count_of_chunks offset rows) (counted : (c : ℕ) → 1 ≤ c → c < count_of_entries t → entry t c ≡ entry t 0 + within t + count_under f n (chunk_start offset c)) (has : has_table t ≡ true) (a b : ℕ) (ab : a < b) (brows : b ≤ rows) where
@@ -55,30 +57,24 @@ module _ (t : ChunkOffsets) (q : Packed) (offset a b dropped first end base low 
       )
 
 -- the same of a column's own chunk data, as narrowing finds them
-module _ (f : ℕ → ℕ) (n offset rows : ℕ) (inside : Inside f n offset rows) (chunks : Option ChunkOffsets) (t : ChunkOffsets) (own : chunks ≡ Some t) (some : has_table chunks ≡ true → 0 < n) (tabled : has_table chunks ≡ true → count_of_entries chunks ≡ count_of_chunks offset rows) (counted : (c : ℕ) → 1 ≤ c → c < count_of_entries chunks → entry chunks c ≡ entry chunks 0 + within chunks + count_under f n (chunk_start offset c)) (a b : ℕ) (ab : a < b) (brows : b ≤ rows) (dropped : ℕ) (place : dropped ≡ count_under f n (offset + a)) (zero-got : ℕ) (zero_is : zero-got ≡ unwrap_or (got (number t.entries) (count t.entries) 0) 0) where
-  has : has_table chunks ≡ true
-  has = ap has_table own
+module _ {V : Type 0} (c : Column V) (t : ChunkOffsets) (own : c.chunks ≡ Some t) (a b : ℕ) (ab : a < b) (brows : b ≤ c.rows) (q : Packed) (dropped first end base low : ℕ) (first-is : first ≡ first_kept c.offset a) (end_is : end ≡ end_kept c.offset b) (part : PartOf t.entries q first end) (base-is : base ≡ number t.entries 0 + t.within + dropped) (low-is : low ≡ unwrap_or (got (number q) (count q) 0) 0) where
+  own_end : end ≤ count t.entries
+  own_end = rw end_is (subst (λ o. end_kept c.offset b ≤ count_of_entries o) own (kept_end (index c) (patches c) c.offset c.rows c.inside c.chunks c.tabled c.counted (ap has_table own) a b ab brows))
 
-  pub own_base : zero-got + t.within + dropped ≡ number t.entries 0 + t.within + dropped
-  own_base = ap (λ k. k + t.within + dropped) (zero_is ∙ own_first f n offset rows inside chunks t own some tabled)
+  own_apart : first < end
+  own_apart = omega (arith, first-is, end_is)
 
-  own_end : end_kept offset b ≤ count t.entries
-  own_end = subst (λ o. end_kept offset b ≤ count_of_entries o) own (kept_end f n offset rows inside chunks tabled counted has a b ab brows)
+  -- the first entry kept is no more than what entry 0 and within and the dropped patches come to
+  pub own_kept_low : dropped ≡ count_under (index c) (patches c) (c.offset + a) → low ≤ base
+  own_kept_low place =
+      let first_of : low ≡ number t.entries first = kept_first t q c.offset a b dropped first end base low first-is end_is own_end own_apart part base-is low-is in
+      let entry_of : number t.entries (first_kept c.offset a) ≤ number t.entries 0 + t.within + count_under (index c) (patches c) (c.offset + a) =
+      subst (λ o. entry o (first_kept c.offset a) ≤ entry o 0 + within o + count_under (index c) (patches c) (c.offset + a)) own
+      (kept_low (index c) (patches c) c.offset c.rows c.inside c.chunks c.tabled c.counted (ap has_table own) a b ab brows) in
+      omega (arith, first_of ∙ ap (number t.entries) first-is, entry_of, place, base-is)
 
-  own_apart : first_kept offset a < end_kept offset b
-  own_apart = kept_some f n offset rows inside chunks tabled counted has a b ab brows
-
-  own_low_entry : number t.entries (first_kept offset a) ≤ number t.entries 0 + t.within + count_under f n (offset + a)
-  own_low_entry = subst (λ o. entry o (first_kept offset a) ≤ entry o 0 + within o + count_under f n (offset + a)) own (kept_low f n offset rows inside chunks tabled counted has a b ab brows)
-
-  module _ (q : Packed) (part : PartOf t.entries q (first_kept offset a) (end_kept offset b)) (low : ℕ) (low-is : low ≡ unwrap_or (got (number q) (count q) 0) 0) where
-    pub own_kept_low : low ≤ zero-got + t.within + dropped
-    own_kept_low =
-        let first : low ≡ number t.entries (first_kept offset a) = kept_first t q offset a b dropped (first_kept offset a) (end_kept offset b) (zero-got + t.within + dropped) low refl refl own_end own_apart part own_base low-is in
-        omega (arith, first, own_low_entry, own_base, place)
-
-    pub own_kept_table : KeepsTable chunks (Some (record { entries = q; within = zero-got + t.within + dropped - low })) offset a b dropped
-    own_kept_table = kept_table t q offset a b dropped (first_kept offset a) (end_kept offset b) (zero-got + t.within + dropped) low refl refl own_end own_apart part own_base low-is own_kept_low chunks own
+  pub own_kept_table : dropped ≡ count_under (index c) (patches c) (c.offset + a) → KeepsTable c.chunks (Some (record { entries = q; within = base - low })) c.offset a b dropped
+  own_kept_table place = kept_table t q c.offset a b dropped first end base low first-is end_is own_end own_apart part base-is low-is (own_kept_low place) c.chunks own
 
 -- what the ghost fields of a column say of its chunk data
 pub record Good (g : ℕ → ℕ) (m : ℕ) (u : Option ChunkOffsets) (offset rows : ℕ) : Type 0 where

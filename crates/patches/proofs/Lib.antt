@@ -11,3 +11,5 @@ pub mod Narrowing
 pub mod ChunkCells
 pub mod Counts
 pub mod ColumnSets
+pub mod Listing
+pub mod ListingPlaces

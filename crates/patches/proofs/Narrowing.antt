@@ -1,6 +1,7 @@
 -- Narrowing a column: what the new column holds of the old.
-use Rattle.std.proofs.Common.{◌≡◌, ℕ, ◌+◌, ◌-◌, ◌<◌, ◌≤◌, true, false, length, take, drop, None, Option, sym, refl, ap, ◌∙◌, subst, inl, inr, arith}
-use Rattle.std.proofs.lemmas.Bool.{cases_Bool, false≢true}
+use Rattle.std.proofs.Common.{◌≡◌, ℕ, ◌+◌, ◌-◌, ◌<◌, ◌≤◌, true, false, length, take, drop, eqb, ltb, Some, None, Option, sym, ap, ◌∙◌, subst, inl, inr, arith}
+use Rattle.std.specs.Bool.{then_some}
+use Rattle.std.proofs.lemmas.Bool.{cases_Bool, cases_lt, false≢true, cond-true, cond-false, lt-ltb, le-ltb, eq-eqb, ne_eqb}
 use Rattle.search_sorted.specs.declared.packed.Packed.{Packed}
 use Rattle.search_sorted.specs.Numbers.{count, number, PartOf}
 use Rattle.patches.specs.declared.column.Column.{Column}
@@ -8,8 +9,9 @@ use Rattle.patches.specs.declared.table.ChunkOffsets.{ChunkOffsets}
 use Rattle.patches.specs.Indices.{count_under, Inside, seek}
 use Rattle.patches.specs.Tables.{has_table}
 use Rattle.patches.specs.Columns.{patches, index, patch_at}
+use Rattle.patches.specs.Lookups.{Places}
 use Rattle.patches.specs.Narrows.{KeptTable, KeepsTable, remaining}
-use Rattle.patches.proofs.Unders.{under_split, under_mono, under_le}
+use Rattle.patches.proofs.Unders.{place_from, place_below, place_to, place_past}
 use Rattle.patches.proofs.Kept.{Good, good_kept}
 use Rattle.patches.proofs.Cuts.{cut_seek, cut_length}
 
@@ -29,46 +31,44 @@ info_none t u offset a b from to e has = absurd (false≢true (sym (ap has_table
 pub good_own : {V : Type 0} (c : Column V) → Good (index c) (patches c) c.chunks c.offset c.rows
 good_own c = record { some = c.some; tabled = c.tabled; near = c.near; low = c.low; counted = c.counted }
 
-module _ {V : Type 0} (c : Column V) (a b from to : ℕ) (ab : a ≤ b) (brows : b ≤ c.rows) (from_is : from ≡ count_under (index c) (patches c) (c.offset + a)) (to_is : to ≡ count_under (index c) (patches c) (c.offset + b)) where
-  pub order : from ≤ to
-  order = omega (arith, under_mono (index c) (c.offset + a) (c.offset + b) (patches c) (omega arith))
-
-  pub top : to ≤ length c.values.now
-  top = omega (arith, c.paired, under_le (index c) (c.offset + b) (patches c))
-
+module _ {V : Type 0} (c : Column V) (a b from to : ℕ) (ab : a ≤ b) (brows : b ≤ c.rows) (at : Places c (c.offset + a) (c.offset + b) from to) where
   module _ (q : Packed) (part : PartOf c.indices.numbers q from to) where
     pub part_count : count q ≡ to - from
-    part_count = omega (arith, part.counted, top, c.paired)
+    part_count = omega (arith, part.counted, at.within)
 
     -- the indices that remain lie among the rows that remain
     pub part_inside : Inside (number q) (count q) (c.offset + a) (b - a)
     part_inside i h =
-        let place : from + i < patches c = omega (arith, part_count, top, c.paired) in
-        let low : c.offset + a ≤ index c (from + i) = (under_split (index c) (c.offset + a) (patches c) c.indices.up).after (from + i) (omega arith) place in
-        let high : index c (from + i) < c.offset + b = (under_split (index c) (c.offset + b) (patches c) c.indices.up).before (from + i) (omega (arith, part_count)) in
+        let place : from + i < patches c = omega (arith, part_count, at.within, at.order) in
+        let low : c.offset + a ≤ index c (from + i) = place_from c _ _ from to at (from + i) (omega arith) place in
+        let high : index c (from + i) < c.offset + b = place_to c _ _ from to at (from + i) (omega (arith, part_count)) in
         rw (part.each i h) (low, omega arith)
 
     pub part_paired : length (take (to - from) (drop from c.values.now)) ≡ count q
-    part_paired = cut_length c.values.now (length c.values.now) from to refl order top ∙ sym part_count
+    part_paired = cut_length c.values.now (patches c) from to c.paired at.order at.within ∙ sym part_count
 
     pub part_good : (u : Option ChunkOffsets) → Info c.chunks u c.offset a b from to → Good (number q) (count q) u (c.offset + a) (b - a)
-    part_good u info = good_kept (index c) (number q) (patches c) (count q) c.offset c.rows c.indices.up c.inside c.chunks (good_own c) a b from to brows ab from_is to_is part_count part.each u info
+    part_good u info = good_kept (index c) (number q) (patches c) (count q) c.offset c.rows c.indices.up c.inside c.chunks (good_own c) a b from to brows ab at.from_is at.to_is part_count part.each u info
 
     -- a row that remains has the patch that it had
     pub part_patched : (k : ℕ) → k < b - a → seek (number q) (c.offset + a + k) 0 (take (to - from) (drop from c.values.now)) ≡ patch_at c (a + k)
     part_patched k h =
         let e : c.offset + a + k ≡ c.offset + (a + k) = omega arith in
         rw e
-        (cut_seek (index c) (number q) c.values.now (length c.values.now) from to (c.offset + (a + k)) refl order top
+        (cut_seek (index c) (number q) c.values.now (patches c) from to (c.offset + (a + k)) c.paired at.order at.within
         (λ i l. part.each i (omega (arith, part_count)))
-        (λ i l z. omega (arith, (under_split (index c) (c.offset + a) (patches c) c.indices.up).before i (omega arith)))
-        (λ i l m z. omega (arith, (under_split (index c) (c.offset + b) (patches c) c.indices.up).after i (omega arith) (omega (arith, c.paired)))))
+        (λ i l z. omega (arith, place_below c _ _ from to at i l))
+        (λ i l m z. omega (arith, place_past c _ _ from to at i l m)))
 
     pub part_counted : count q ≡ count_under (index c) (patches c) (c.offset + b) - from
-    part_counted = omega (arith, part_count)
+    part_counted = omega (arith, part_count, at.to_is)
 
-    pub part_left : remaining (to - from) ≡ remaining (count q)
-    part_left = ap remaining (sym part_count)
+    pub part_left : then_some (ltb from to) (to - from) ≡ remaining (count q)
+    part_left =
+        elim (cases_lt from to) [
+          | inl lt ↦ rw (lt-ltb from to lt) (ap Some (sym part_count) ∙ sym (cond-false (eqb (count q) 0) None (Some (count q)) (ne_eqb (count q) 0 (λ e. omega (arith, part_count)))))
+          | inr ge ↦ rw (le-ltb from to ge) (sym (cond-true (eqb (count q) 0) None (Some (count q)) (eq-eqb (count q) 0 (omega (arith, part_count)))))
+        ]
 
     module _ (u : Option ChunkOffsets) (info : Info c.chunks u c.offset a b from to) where
       -- chunk data go with the last patch, and with no other

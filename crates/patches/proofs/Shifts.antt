@@ -3,14 +3,14 @@ use Rattle.std.proofs.Common.{◌≡◌, ℕ, ◌+◌, ◌-◌, ◌/◌, ◌<◌
 use Rattle.std.proofs.lemmas.Bool.{cases_lt}
 use Rattle.search_sorted.specs.declared.search.SearchResult.{SearchResult}
 use Rattle.search_sorted.specs.declared.search.SearchResult.TheVariants.{Found, NotFound}
-use Rattle.search_sorted.specs.Packed.{Ascending}
 use Rattle.search_sorted.proofs.Lefts.{Split, Finds}
 use Rattle.search_sorted.specs.declared.packed.Packed.{Packed}
 use Rattle.search_sorted.specs.Numbers.{count, number, PartOf}
 use Rattle.patches.specs.Chunks.{phase, chunk_start}
-use Rattle.patches.specs.Indices.{count_under}
-use Rattle.patches.specs.Lookups.{shifted}
-use Rattle.patches.proofs.Unders.{under_split, under_mono, under_le}
+use Rattle.patches.specs.declared.column.Column.{Column}
+use Rattle.patches.specs.Columns.{index, patches}
+use Rattle.patches.specs.Lookups.{Places, shifted}
+use Rattle.patches.proofs.Unders.{place_below, place_past}
 
 module _ (f g : ℕ → ℕ) (n m x lo hi : ℕ) (count : m ≡ hi - lo) (top : hi ≤ n) (order : lo ≤ hi) (same : (i : ℕ) → i < m → g i ≡ f (lo + i)) (below : (k : ℕ) → k < lo → f k < x) (above : (k : ℕ) → hi ≤ k → k < n → x < f k) where
   pub shift_split : (i : ℕ) → Split g m x i → Split f n x (lo + i)
@@ -53,21 +53,15 @@ module _ (f g : ℕ → ℕ) (n m x lo hi : ℕ) (count : m ≡ hi - lo) (top : 
   shift_finds (NotFound i) a = (absent a.0, shift_split i a.1)
 
 -- the answer in the chunk of a row
-module _ (p q : Packed) (offset row chunk lo hi : ℕ) (up : Ascending (number p) (count p)) (is : chunk ≡ (phase offset + row) / 1024) (low : lo ≡ count_under (number p) (count p) (chunk_start offset chunk)) (high : hi ≡ count_under (number p) (count p) (chunk_start offset (chunk + 1))) (part : PartOf p q lo hi) where
-  low_le : lo ≤ hi
-  low_le = omega (arith, under_mono (number p) (chunk_start offset chunk) (chunk_start offset (chunk + 1)) (count p) (omega arith))
-
-  high_le : hi ≤ count p
-  high_le = omega (arith, under_le (number p) (chunk_start offset (chunk + 1)) (count p))
-
+module _ {V : Type 0} (c : Column V) (q : Packed) (row chunk lo hi : ℕ) (is : chunk ≡ (phase c.offset + row) / 1024) (at : Places c (chunk_start c.offset chunk) (chunk_start c.offset (chunk + 1)) lo hi) (part : PartOf c.indices.numbers q lo hi) where
   pub part_count : count q ≡ hi - lo
-  part_count = omega (arith, part.counted, high_le)
+  part_count = omega (arith, part.counted, at.within)
 
-  pub part_within : (i : ℕ) → i ≤ count q → lo + i ≤ count p
-  part_within i h = omega (arith, part_count, high_le, low_le)
+  pub part_within : (i : ℕ) → i ≤ count q → lo + i ≤ patches c
+  part_within i h = omega (arith, part_count, at.within, at.order)
 
-  pub chunk_finds : (r : SearchResult) → Finds (number q) (count q) (offset + row) r → Finds (number p) (count p) (offset + row) (shifted lo r)
+  pub chunk_finds : (r : SearchResult) → Finds (number q) (count q) (c.offset + row) r → Finds (index c) (patches c) (c.offset + row) (shifted lo r)
   chunk_finds =
-      shift_finds (number p) (number q) (count p) (count q) (offset + row) lo hi part_count high_le low_le part.each
-      (λ k h. omega (arith, (under_split (number p) (chunk_start offset chunk) (count p) up).before k (omega arith)))
-      (λ k h l. omega (arith, (under_split (number p) (chunk_start offset (chunk + 1)) (count p) up).after k (omega arith) l))
+      shift_finds (index c) (number q) (patches c) (count q) (c.offset + row) lo hi part_count at.within at.order part.each
+      (λ k h. omega (arith, place_below c _ _ lo hi at k h))
+      (λ k h l. omega (arith, place_past c _ _ lo hi at k h l))

@@ -3,7 +3,10 @@ use Rattle.std.proofs.Common.{◌≡◌, ℕ, zero, suc, ◌+◌, ◌-◌, ◌<�
 use Rattle.std.proofs.lemmas.Bool.{false≢true, cases_lt, cond-true, cond-false, lt-ltb, le-ltb}
 use Rattle.search_sorted.specs.Packed.{Ascending}
 use Rattle.search_sorted.proofs.Lefts.{Split}
+use Rattle.patches.specs.declared.column.Column.{Column}
 use Rattle.patches.specs.Indices.{count_under}
+use Rattle.patches.specs.Columns.{index, patches}
+use Rattle.patches.specs.Lookups.{Places}
 
 module _ (f : ℕ → ℕ) (x : ℕ) where
   one_below : (n : ℕ) → f n < x → ◌≡◌ {A = ℕ} (cond (ltb (f n) x) 1 0) 1
@@ -88,3 +91,26 @@ module _ (f : ℕ → ℕ) (x : ℕ) where
 
   pub count_not_past : (n m : ℕ) → n < m → Decides false (count_under f n x ≡ m)
   count_not_past n m lt = ((λ u. absurd (false≢true u)), (λ e. absurd (omega (arith, under_le n))))
+
+-- the places between two bounds
+pub places_made : {V : Type 0} (c : Column V) (x y from to : ℕ) → x ≤ y → from ≡ count_under (index c) (patches c) x → to ≡ count_under (index c) (patches c) y → Places c x y from to
+places_made c x y from to le low high = record {
+  from_is = low;
+  to_is = high;
+  order = omega (arith, low, high, under_mono (index c) x y (patches c) le);
+  within = omega (arith, high, under_le (index c) y (patches c));
+}
+
+-- the indices at those places lie from x up to y, and no other does
+module _ {V : Type 0} (c : Column V) (x y from to : ℕ) (at : Places c x y from to) where
+  pub place_from : (i : ℕ) → from ≤ i → i < patches c → x ≤ index c i
+  place_from i h = (under_split (index c) x (patches c) c.indices.up).after i (omega (arith, at.from_is))
+
+  pub place_below : (i : ℕ) → i < from → index c i < x
+  place_below i h = (under_split (index c) x (patches c) c.indices.up).before i (omega (arith, at.from_is))
+
+  pub place_to : (i : ℕ) → i < to → index c i < y
+  place_to i h = (under_split (index c) y (patches c) c.indices.up).before i (omega (arith, at.to_is))
+
+  pub place_past : (i : ℕ) → to ≤ i → i < patches c → y ≤ index c i
+  place_past i h = (under_split (index c) y (patches c) c.indices.up).after i (omega (arith, at.to_is))

@@ -3,7 +3,7 @@ use Rattle.std.specs.Prelude.{◌≡◌, ℕ, ◌+◌, ◌-◌, ◌≤◌, false
 use Rattle.std.proofs.Common.{arith}
 use Rattle.search_sorted.specs.Numbers.{count, number}
 use Rattle.patches.specs.declared.column.Column.{Column}
-use Rattle.patches.specs.Indices.{seek}
+use Rattle.patches.specs.Indices.{count_under, seek}
 use Rattle.patches.specs.SeekLaws.{seek_past}
 use Rattle.patches.specs.Assignments.{Assignment}
 use Rattle.patches.specs.Chunks.{limit}
@@ -16,6 +16,10 @@ patches c = count c.indices.numbers
 -- the stored index at a place
 abbrev pub index : {V : Type 0} → Column V → ℕ → ℕ
 index c place = number c.indices.numbers place
+
+-- how many patches have a stored index below x
+abbrev pub patches_under : {V : Type 0} → Column V → ℕ → ℕ
+patches_under c x = count_under (index c) (patches c) x
 
 -- the row of the patch at a place
 abbrev pub row_at : {V : Type 0} → Column V → ℕ → ℕ

@@ -1,6 +1,7 @@
 pub mod Refusals
 pub mod Chunks
 pub mod Assignments
+pub mod Listed
 pub mod Windows
 pub mod Indices
 pub mod SeekLaws

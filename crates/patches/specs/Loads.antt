@@ -4,6 +4,7 @@ use Rattle.search_sorted.specs.declared.width.Width.{Width}
 use Rattle.search_sorted.specs.declared.packed.Packed.{Packed}
 use Rattle.search_sorted.specs.Packed.{size, number_at}
 use Rattle.patches.specs.declared.column.Column.{Column}
+use Rattle.patches.specs.declared.span.Span.{Span}
 use Rattle.patches.specs.declared.table.ChunkOffsets.{ChunkOffsets}
 use Rattle.patches.specs.declared.refusal.Refusal.{Refusal}
 use Rattle.patches.specs.declared.corrections.ChunkTable.{ChunkTable}
@@ -27,10 +28,10 @@ BadTable t offset rows =
     ⊎ ((phase offset < t.within)
     ⊎ (limit < number_at t.entries.now t.width 0)))
 
--- the entries of a table that is right as a whole, or none of one that is not
-abbrev pub TableEntries : ChunkTable → ℕ → ℕ → Option Packed → Type 0
-TableEntries t offset rows None = BadTable t offset rows
-TableEntries t offset rows (Some p) = (BadTable t offset rows → ⊥) × (size p.width ≡ t.width) × (p.bytes.now ≡ t.entries.now)
+-- the chunk data of a table that is right as a whole, or none of one that is not
+abbrev pub WholeTable : ChunkTable → ℕ → ℕ → Option ChunkOffsets → Type 0
+WholeTable t offset rows None = BadTable t offset rows
+WholeTable t offset rows (Some u) = (BadTable t offset rows → ⊥) × (size u.entries.width ≡ t.width) × (u.entries.bytes.now ≡ t.entries.now) × (u.within ≡ t.within)
 
 -- the five rules on widths, counts and rows, over the index bytes and the number of values
 abbrev pub shape_rules : ℕ → List ℕ → ℕ → ℕ → ℕ → List Rule
@@ -41,6 +42,13 @@ shape_rules w bytes values rows offset =
     ∷ rule ValueCount (values ≢ length bytes / w)
     ∷ rule RowLimit (limit < offset + rows)
     ∷ []
+
+-- numbers and rows that are those of a file
+pub record Shaped {V : Type 0} (f : Corrections V) (p : Packed) (s : Span) : Type 0 where
+  pub width : size p.width ≡ f.width
+  pub bytes : p.bytes.now ≡ f.indices.now
+  pub offset : s.offset ≡ f.offset
+  pub rows : s.rows ≡ f.rows
 
 module _ (index : ℕ → ℕ) (n : ℕ) where
   -- an index that is not above the one before it

@@ -6,9 +6,8 @@ use Rattle.patches.specs.declared.refusal.Reason.TheVariants.{RowRange}
 use Rattle.patches.specs.declared.table.ChunkOffsets.{ChunkOffsets}
 use Rattle.patches.specs.Refusals.{Rule, rule}
 use Rattle.patches.specs.Chunks.{phase}
-use Rattle.patches.specs.Indices.{count_under}
 use Rattle.patches.specs.Tables.{has_table, count_of_entries, entry, within}
-use Rattle.patches.specs.Columns.{patches, index, patch_at}
+use Rattle.patches.specs.Columns.{patches, patches_under, index, patch_at}
 
 -- the rules of a range of rows
 abbrev pub row_rules : ℕ → ℕ → ℕ → List Rule
@@ -40,11 +39,11 @@ remaining n = cond (n == 0) None (Some n)
 pub record NarrowedTo {V : Type 0} (c d : Column V) (a b : ℕ) : Type 0 where
   -- how many patches lie before row a
   pub dropped : ℕ
-  pub dropped_is : dropped ≡ count_under (index c) (patches c) (c.offset + a)
+  pub dropped_is : dropped ≡ patches_under c (c.offset + a)
   pub rows : d.rows ≡ b - a
   pub offset : d.offset ≡ c.offset + a
   pub patched : (k : ℕ) → k < b - a → patch_at d k ≡ patch_at c (a + k)
-  pub count : patches d ≡ count_under (index c) (patches c) (c.offset + b) - dropped
+  pub count : patches d ≡ patches_under c (c.offset + b) - dropped
   pub indices : (i : ℕ) → i < patches d → index d i ≡ index c (dropped + i)
   pub no_table : patches d ≡ 0 → has_table d.chunks ≡ false
   pub some_table : 0 < patches d → has_table d.chunks ≡ has_table c.chunks

@@ -1,5 +1,5 @@
 -- The rows from a up to b of a patch set, as a patch set.
-use Rattle.std.specs.Prelude.{ℕ, ◌+◌, ◌-◌, ◌≤◌, min, cond, None, nat_lt}
+use Rattle.std.specs.Prelude.{ℕ, ◌+◌, ◌-◌, ◌≤◌, min, cond, Some, None, Option, nat_lt}
 use Rattle.std.proofs.Common.{arith}
 use Rattle.std.proofs.lemmas.Bool.{cond-false, le-ltb}
 use Rattle.patches.specs.Assignments.{Patch, Assignment}
@@ -22,6 +22,10 @@ narrowed_first rows first end a b = start_in first end rows + start_in a b (span
 
 abbrev pub narrowed_end : ℕ → ℕ → ℕ → ℕ → ℕ
 narrowed_end rows first end b = start_in first end rows + end_in b (span_in first end rows)
+
+-- the row of the set below that row r of the rows from a up to b is, or none past the last
+abbrev pub row_in : ℕ → ℕ → ℕ → ℕ → Option ℕ
+row_in a b rows r = cond (nat_lt r (span_in a b rows)) (Some (start_in a b rows + r)) None
 
 -- what n rows from a first one on have; past them there is nothing
 abbrev pub part_of : {V : Type 0} → (ℕ → Patch V) → ℕ → ℕ → ℕ → Patch V

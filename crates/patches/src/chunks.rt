@@ -1,9 +1,10 @@
-ghost use Rattle.std.specs.Prelude.{◌≡◌, ℕ, ◌+◌, ◌-◌, ◌*◌, ◌/◌, ◌%◌, ◌<◌, ◌≤◌, [], ◌∷◌, IfOk};
+ghost use Rattle.std.specs.Prelude.{◌≡◌, IfOk};
 ghost use Rattle.patches.specs.declared.refusal.Part.TheVariants.{Column as ColumnPart};
 ghost use Rattle.patches.specs.Refusals.{Judged};
-ghost use Rattle.patches.specs.Chunks.{limit, count_of_chunks, first_row_of, end_row_of, range_rules};
+ghost use Rattle.patches.specs.Chunks.{count_of_chunks, first_row_of, end_row_of, range_rules};
 
-use crate::refusal::{Part, Reason, Refusal};
+use crate::refusal::Refusal;
+use crate::span::Span;
 use std::ops::Range;
 
 /// The most that an offset and rows may come to together, and the most rows that a patch set or a run may have.
@@ -16,7 +17,7 @@ pub fn chunk_total(offset: u64, rows: u64) -> u64
     if rows == 0 {
         return 0;
     }
-    rows / 1024 + (offset % 1024 + rows % 1024 + 1023) / 1024
+    rows / 1024 + (offset % 1024 + rows % 1024).div_ceil(1024)
 }
 
 /// The rows of a chunk, where rows are counted from an offset and each chunk has 1024 indices.
@@ -27,14 +28,5 @@ pub fn chunk_range(chunk: u64, offset: u64, rows: u64) -> Result<Range<u64>, Ref
     ensures start { IfOk result (λ s. s.start ≡ first_row_of chunk offset rows) }
     ensures end { IfOk result (λ s. s.end ≡ end_row_of chunk offset rows) }
 {
-    if offset > LIMIT || rows > LIMIT - offset {
-        return Err(Refusal::by(Part::Column, Reason::RowLimit, 0));
-    }
-    if chunk >= chunk_total(offset, rows) {
-        return Err(Refusal::by(Part::Column, Reason::ChunkNumber, chunk));
-    }
-    let phase = offset % 1024;
-    let start = (1024 * chunk).saturating_sub(phase);
-    let end = 1024 * (chunk + 1) - phase;
-    Ok(start..if end < rows { end } else { rows })
+    Span::judge(offset, rows)?.chunk_rows(chunk)
 }

@@ -1,30 +1,31 @@
 ghost use Rattle.std.specs.Prelude.{◌≡◌};
 ghost use Rattle.patches.specs.Refusals.{number_of};
 
+use std::error::Error;
 use std::fmt;
 
 /// Why a call refuses. Each reason has its number; a call tests in rising order of number and names the first that fits.
 #[derive(Clone, Copy, PartialEq, Eq, Debug)]
 pub enum Reason {
-    IndexWidth,
-    IndexBytes,
-    NoIndex,
-    ValueCount,
-    RowLimit,
-    IndexOrder,
-    IndexRange,
-    ChunkData,
-    RowRange,
-    MaskShape,
-    Position,
-    LaneCount,
-    LaneTable,
-    OutputRoom,
-    NoChunkData,
-    ChunkNumber,
-    CellCount,
-    SetRows,
-    ChunksLeft,
+    IndexWidth = 1,
+    IndexBytes = 2,
+    NoIndex = 3,
+    ValueCount = 4,
+    RowLimit = 5,
+    IndexOrder = 6,
+    IndexRange = 7,
+    ChunkData = 8,
+    RowRange = 9,
+    MaskShape = 10,
+    Position = 11,
+    LaneCount = 12,
+    LaneTable = 13,
+    OutputRoom = 14,
+    NoChunkData = 15,
+    ChunkNumber = 16,
+    CellCount = 17,
+    SetRows = 18,
+    ChunksLeft = 19,
 }
 
 /// Which part of the library refused.
@@ -64,27 +65,7 @@ impl Reason {
     pub fn number(self) -> u64
         ensures { result ≡ number_of self }
     {
-        match self {
-            Reason::IndexWidth => 1,
-            Reason::IndexBytes => 2,
-            Reason::NoIndex => 3,
-            Reason::ValueCount => 4,
-            Reason::RowLimit => 5,
-            Reason::IndexOrder => 6,
-            Reason::IndexRange => 7,
-            Reason::ChunkData => 8,
-            Reason::RowRange => 9,
-            Reason::MaskShape => 10,
-            Reason::Position => 11,
-            Reason::LaneCount => 12,
-            Reason::LaneTable => 13,
-            Reason::OutputRoom => 14,
-            Reason::NoChunkData => 15,
-            Reason::ChunkNumber => 16,
-            Reason::CellCount => 17,
-            Reason::SetRows => 18,
-            Reason::ChunksLeft => 19,
-        }
+        self as u64
     }
 
     // What is wrong, and what to do about it.
@@ -131,21 +112,25 @@ impl Reason {
 
 impl fmt::Display for Part {
     fn fmt<W: fmt::Write>(&self, f: &mut fmt::Formatter<W>) -> fmt::Result {
-        match *self {
-            Part::Column => f.write_str("column"),
-            Part::Selection => f.write_str("selection"),
-            Part::Lanes => f.write_str("lanes"),
-            Part::Run => f.write_str("run"),
-        }
+        f.write_str(match self {
+            Part::Column => "column",
+            Part::Selection => "selection",
+            Part::Lanes => "lanes",
+            Part::Run => "run",
+        })
     }
 }
 
 impl fmt::Display for Refusal {
     fn fmt<W: fmt::Write>(&self, f: &mut fmt::Formatter<W>) -> fmt::Result {
         let number = self.reason.number();
-        let part = self.part;
-        let place = self.place;
         let advice = self.reason.advice();
-        write!(f, "refusal {number} ({part}, place {place}): {advice}")
+        write!(
+            f,
+            "refusal {number} ({}, place {}): {advice}",
+            self.part, self.place
+        )
     }
 }
+
+impl Error for Refusal {}

@@ -3,10 +3,11 @@ ghost use Rattle.patches.specs.declared.refusal.Part.TheVariants.{Selection};
 ghost use Rattle.patches.specs.Assignments.{Assignment, SameAssignment};
 ghost use Rattle.patches.specs.Narrows.{row_rules};
 ghost use Rattle.patches.specs.Refusals.{Judged};
-ghost use Rattle.patches.specs.Windows.{end_in, start_in, narrowed_first, narrowed_end, windowed};
+ghost use Rattle.patches.specs.Windows.{end_in, start_in, narrowed_first, narrowed_end, row_in, windowed};
 
 use crate::patch_set::PatchSet;
 use crate::refusal::{Part, Reason, Refusal};
+use std::ops::Range;
 
 /// The rows from `first` up to `end` of a patch set, as a patch set: row `k` is row `first + k` of the set.
 #[derive_where(Clone, Copy)]
@@ -14,13 +15,6 @@ pub struct Window<'s, S> {
     set: &'s S,
     first: u64,
     end: u64,
-}
-
-// The lesser of two numbers.
-fn lesser(a: u64, b: u64) -> u64
-    ensures { result ≡ end_in a b }
-{
-    if a < b { a } else { b }
 }
 
 impl<'s, S: PatchSet> Window<'s, S> {
@@ -31,10 +25,10 @@ impl<'s, S: PatchSet> Window<'s, S> {
         ensures end { result.end ≡ end_in b (S.PatchSet.meaning set.now).rows }
         ensures shows { SameAssignment (windowed (S.PatchSet.meaning result.set.now) result.first result.end) (windowed (S.PatchSet.meaning set.now) a b) }
     {
-        let end = lesser(b, set.rows());
+        let end = b.min(set.rows());
         Window {
             set,
-            first: lesser(a, end),
+            first: a.min(end),
             end,
         }
     }
@@ -57,22 +51,30 @@ impl<'s, S: PatchSet> Window<'s, S> {
         ensures first { result.first ≡ narrowed_first (S.PatchSet.meaning self.now.set.now).rows self.now.first self.now.end a b }
         ensures end { result.end ≡ narrowed_end (S.PatchSet.meaning self.now.set.now).rows self.now.first self.now.end b }
     {
-        let (first, end) = self.ends();
-        let stop = lesser(b, end - first);
+        let rows = self.set_rows();
+        let stop = b.min(rows.end - rows.start);
         Window {
             set: self.set,
-            first: first + lesser(a, stop),
-            end: first + stop,
+            first: rows.start + a.min(stop),
+            end: rows.start + stop,
         }
     }
 
-    // The first row and the row after the last, lowered to the rows that the set has.
-    fn ends(&self) -> (u64, u64)
-        ensures first { result.0 ≡ start_in self.now.first self.now.end (S.PatchSet.meaning self.now.set.now).rows }
-        ensures end { result.1 ≡ end_in self.now.end (S.PatchSet.meaning self.now.set.now).rows }
+    // The window's rows, as rows of the set: both ends are lowered to the rows that the set has.
+    fn set_rows(&self) -> Range<u64>
+        ensures start { result.start ≡ start_in self.now.first self.now.end (S.PatchSet.meaning self.now.set.now).rows }
+        ensures end { result.end ≡ end_in self.now.end (S.PatchSet.meaning self.now.set.now).rows }
     {
-        let end = lesser(self.end, self.set.rows());
-        (lesser(self.first, end), end)
+        let end = self.end.min(self.set.rows());
+        self.first.min(end)..end
+    }
+
+    // The row of the set that a row of the window is, or none past the window's last.
+    fn set_row(&self, r: u64) -> Option<u64>
+        ensures { result ≡ row_in self.now.first self.now.end (S.PatchSet.meaning self.now.set.now).rows r }
+    {
+        let rows = self.set_rows();
+        (r < rows.end - rows.start).then(|| rows.start + r)
     }
 }
 
@@ -82,33 +84,23 @@ impl<'s, S: PatchSet> PatchSet for Window<'s, S> {
     ghost meaning = { λ w. windowed (S.PatchSet.meaning w.set.now) w.first w.end };
 
     fn rows(&self) -> u64 {
-        let (first, end) = self.ends();
-        end - first
+        let rows = self.set_rows();
+        rows.end - rows.start
     }
 
     fn below(&self, r: u64) -> u64 {
-        let (first, end) = self.ends();
-        let top = lesser(r, end - first);
-        self.set.below(first + top) - self.set.below(first)
+        let rows = self.set_rows();
+        let top = r.min(rows.end - rows.start);
+        self.set.below(rows.start + top) - self.set.below(rows.start)
     }
 
     fn next(&self, r: u64) -> Option<u64> {
-        let (first, end) = self.ends();
-        if r >= end - first {
-            return None;
-        }
-        match self.set.next(first + r) {
-            Some(q) if q < end => Some(q - first),
-            _ => None,
-        }
+        let rows = self.set_rows();
+        let q = self.set.next(self.set_row(r)?)?;
+        (q < rows.end).then(|| q - rows.start)
     }
 
     fn find(&self, r: u64) -> Option<S::Value> {
-        let (first, end) = self.ends();
-        if r < end - first {
-            self.set.find(first + r)
-        } else {
-            None
-        }
+        self.set.find(self.set_row(r)?)
     }
 }

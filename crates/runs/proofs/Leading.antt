@@ -1,6 +1,6 @@
 -- What each attempt makes of a run.
-use Rattle.std.proofs.Common.{◌≡◌, ℕ, ◌+◌, ◌-◌, ◌%◌, ◌<◌, ◌≤◌, min, eqb, ltb, List, [], ◌∷◌, ◌++◌, length, Some, None, Ok, Err, Option, Result, sym, refl, ap, ◌∙◌, subst, inl, inr, arith, length-append}
-use Rattle.std.proofs.lemmas.Bool.{cases_lt, cases_eq, cond-true, cond-false, eq-eqb, ne_eqb, lt-ltb}
+use Rattle.std.proofs.Common.{◌≡◌, ℕ, ◌+◌, ◌-◌, ◌<◌, ◌≤◌, ◌≢◌, min, ltb, List, [], ◌∷◌, ◌++◌, length, Some, None, Ok, Err, Option, Result, sym, refl, ap, ◌∙◌, inl, inr, arith, length-append}
+use Rattle.std.proofs.lemmas.Bool.{cases_lt, cases_eq, cond-true, lt-ltb}
 use Rattle.std.proofs.lemmas.List.{append_assoc, append-nil}
 use Rattle.std.proofs.lemmas.Bool.Decides.{nat_tests}
 use Rattle.patches.specs.declared.refusal.Refusal.{Refusal}
@@ -14,260 +14,202 @@ use Rattle.runs.specs.declared.run.OpenRun.{OpenRun}
 use Rattle.runs.specs.declared.run.ClosedRun.{ClosedRun}
 use Rattle.runs.specs.declared.attempts.Attempt.{Attempt}
 use Rattle.runs.specs.declared.attempts.Attempt.TheVariants.{Open as Open', Step, Close, Abandon}
-use Rattle.runs.specs.declared.attempts.Outcome.{Outcome}
-use Rattle.runs.specs.declared.attempts.Outcome.TheVariants.{NotMade, Accepted, Refused}
+use Rattle.runs.specs.declared.attempts.AttemptError.{AttemptError}
+use Rattle.runs.specs.declared.attempts.AttemptError.TheVariants.{NotMade, Refused}
 use Rattle.runs.specs.declared.attempts.Run.{Run}
 use Rattle.runs.specs.declared.attempts.Run.TheVariants.{Unopened, Open, Closed, Abandoned}
 use Rattle.runs.specs.Steps.{open_rules, step_rules, close_rules, Replaced, Begun, Advanced, Stepped}
-use Rattle.runs.specs.Events.{Event, event_of, opened, stepped, closed, abandoned, Opening, or_else, opening_in, open_after, steps_in, ends_in, handed_in, back_in}
-use Rattle.runs.specs.Attempts.{Answered, RightOpening, RightStep, RightCells, RightClosing, RightAbandoning, Right, AllRight, OpenedFor, WentThrough, NotOpened, Stands, Leads, LeadsAside}
+use Rattle.runs.specs.Events.{Outcome, Event, event_of, opened, stepped, closed, abandoned, Opening, opening_in, open_after, steps_in, ends_in, handed_in, back_in}
+use Rattle.runs.specs.Attempts.{Answered, RightOpening, RightStep, RightCells, RightClosing, Right, AllRight, OpenedFor, WentThrough, NotOpened, Stands, Leads, LeadsAside}
 use Rattle.runs.proofs.Joins.{replaced_none, replaced_join, replaced_same}
-use Rattle.runs.proofs.Pasts.{Idle, opening_push, steps_push, ends_push, handed_push, back_push, opening_stays, opening_idle, steps_idle, ends_idle, handed_idle, back_idle}
+use Rattle.runs.proofs.Pasts.{Idle, not_accepted, opening_push, steps_push, ends_push, handed_push, back_push, opening_stays, opening_idle, steps_idle, ends_idle, handed_idle, back_idle}
 
--- a number that is not past another, and two that are not unlike
-not_past : (a b : ℕ) → (b ≤ a → ⊥) → a < b
-not_past a b h = elim (cases_lt a b) [ inl l ↦ l | inr l ↦ absurd (h l) ]
-
-not_below : (a b : ℕ) → (a < b → ⊥) → b ≤ a
-not_below a b h = elim (cases_lt a b) [ inl l ↦ absurd (h l) | inr l ↦ l ]
-
-same_by : (a b : ℕ) → ((a ≡ b → ⊥) → ⊥) → a ≡ b
+-- two numbers that are not unlike are the same
+same_by : (a b : ℕ) → (a ≢ b → ⊥) → a ≡ b
 same_by a b h = elim (cases_eq a b) [ inl e ↦ e | inr n ↦ absurd (h n) ]
 
 -- the outcome of a step, from its answer
 abbrev pub outcome_of : Result Unit Refusal → Outcome
-outcome_of (Ok u) = Accepted
-outcome_of (Err f) = Refused f
+outcome_of (Ok u) = Ok u
+outcome_of (Err f) = Err (Refused f)
 
 module _ {V : Type 0} (past : List (Event V)) where
   -- which run is open after the past
-  pub open_now : (o : Option Opening) → opening_in past ≡ o → ends_in past ≡ 0 → open_after past ≡ o
-  open_now o is none = cond-true (eqb (ends_in past) 0) (opening_in past) None (eq-eqb (ends_in past) 0 none) ∙ is
+  open_now : (o : Option Opening) → opening_in past ≡ o → ends_in past ≡ 0 → open_after past ≡ o
+  open_now o is none = rw none is
 
-  pub ended_now : ends_in past ≡ 1 → open_after past ≡ None
-  ended_now one = cond-false (eqb (ends_in past) 0) (opening_in past) None (ne_eqb (ends_in past) 0 (λ z. omega arith))
+  ended_now : ends_in past ≡ 1 → open_after past ≡ None
+  ended_now one = rw one refl
 
 module _ {V : Type 0} (m : Assignment V) (past : List (Event V)) (e : Event V) where
   opened_more : (rows phase : ℕ) → OpenedFor past rows phase → OpenedFor (past ++ e ∷ []) rows phase
   opened_more rows phase o = record { opening = o.opening; is = opening_stays past e o.opening o.is; rows_are = o.rows_are; phase_is = o.phase_is }
 
-  went_idle : (n count : ℕ) → Idle e → WentThrough m past n count → WentThrough m (past ++ e ∷ []) n count
-  went_idle n count idle w =
-      let eh : handed_in (past ++ e ∷ []) ≡ handed_in past = handed_idle past e idle in
-      let eb : back_in (past ++ e ∷ []) ≡ back_in past = back_idle past e idle in
-      record {
-        all_rows = ap length eh ∙ w.all_rows;
-        replaced = subst (λ l. Replaced m.patch 0 l (back_in (past ++ e ∷ []))) (sym eh) (subst (λ l. Replaced m.patch 0 (handed_in past) l) (sym eb) w.replaced);
-        counted = w.counted;
-      }
-
   -- an attempt that was not accepted leaves the run what it was
-  pub stands_idle : (run : Run) → Idle e → Stands m past run → Stands m (past ++ e ∷ []) run
-  stands_idle Unopened idle s = record {
-    not_opened = opening_idle past e idle ∙ s.not_opened;
-    no_steps = steps_idle past e idle ∙ s.no_steps;
-    not_ended = ends_idle past e idle ∙ s.not_ended;
-    nothing_handed = handed_idle past e idle ∙ s.nothing_handed;
-    nothing_back = back_idle past e idle ∙ s.nothing_back;
-  }
-  stands_idle (Open run) idle s = record {
-    opened_for = opened_more run.rows run.phase s.opened_for;
-    not_ended = ends_idle past e idle ∙ s.not_ended;
-    steps = steps_idle past e idle ∙ s.steps;
-    rows_of_set = s.rows_of_set;
-    done = went_idle _ _ idle s.done;
-  }
-  stands_idle (Closed run) idle s = record {
-    phase = s.phase;
-    opened_for = opened_more run.rows s.phase s.opened_for;
-    ended = ends_idle past e idle ∙ s.ended;
-    rows_of_set = s.rows_of_set;
-    done = went_idle _ _ idle s.done;
-  }
-  stands_idle Abandoned idle s = record {
-    rows = s.rows;
-    phase = s.phase;
-    opened_for = opened_more s.rows s.phase s.opened_for;
-    ended = ends_idle past e idle ∙ s.ended;
-  }
+  module _ (idle : Idle e) where
+    went_idle : (n count : ℕ) → WentThrough m past n count → WentThrough m (past ++ e ∷ []) n count
+    went_idle n count w = record {
+      all_rows = ap length (handed_idle past e idle) ∙ w.all_rows;
+      replaced = rw (handed_idle past e idle, back_idle past e idle) w.replaced;
+      counted = w.counted;
+    }
+
+    stands_idle : (run : Run) → Stands m past run → Stands m (past ++ e ∷ []) run
+    stands_idle Unopened s = record {
+      not_opened = opening_idle past e idle ∙ s.not_opened;
+      no_steps = steps_idle past e idle ∙ s.no_steps;
+      not_ended = ends_idle past e idle ∙ s.not_ended;
+      nothing_handed = handed_idle past e idle ∙ s.nothing_handed;
+      nothing_back = back_idle past e idle ∙ s.nothing_back;
+    }
+    stands_idle (Open run) s = record {
+      opened_for = opened_more run.rows run.phase s.opened_for;
+      not_ended = ends_idle past e idle ∙ s.not_ended;
+      steps = steps_idle past e idle ∙ s.steps;
+      rows_of_set = s.rows_of_set;
+      done = went_idle _ _ s.done;
+    }
+    stands_idle (Closed run) s = record {
+      phase = s.phase;
+      opened_for = opened_more run.rows s.phase s.opened_for;
+      ended = ends_idle past e idle ∙ s.ended;
+      rows_of_set = s.rows_of_set;
+      done = went_idle _ _ s.done;
+    }
+    stands_idle Abandoned s = record {
+      rows = s.rows;
+      phase = s.phase;
+      opened_for = opened_more s.rows s.phase s.opened_for;
+      ended = ends_idle past e idle ∙ s.ended;
+    }
 
   went_more : (n count n' count' : ℕ) (before after : List V) → handed_in (past ++ e ∷ []) ≡ handed_in past ++ before → back_in (past ++ e ∷ []) ≡ back_in past ++ after
       → n' ≡ n + length before → count' + patches_below m.patch n ≡ count + patches_below m.patch n' → Replaced m.patch n before after → WentThrough m past n count → WentThrough m (past ++ e ∷ []) n' count'
   went_more n count n' count' before after eh eb up sum here w = record {
     all_rows = ap length eh ∙ length-append (handed_in past) before ∙ omega (arith, w.all_rows);
-    replaced =
-        subst (λ l. Replaced m.patch 0 l (back_in (past ++ e ∷ []))) (sym eh)
-        (subst (λ l. Replaced m.patch 0 (handed_in past ++ before) l) (sym eb)
-        (replaced_join m.patch 0 n (handed_in past) (back_in past) before after (omega (arith, w.all_rows)) w.replaced here));
+    replaced = rw (eh, eb) (replaced_join m.patch 0 n (handed_in past) (back_in past) before after (omega (arith, w.all_rows)) w.replaced here);
     counted = omega (arith, w.counted);
   }
 
 module _ {V : Type 0} (m : Assignment V) where
   -- an attempt for which there is no run, or which is refused, leads from a run to the same
-  idle_leads : (run : Run) (e : Event V) → Idle e → ((past : List (Event V)) → Stands m past run → Right m past e) → Leads m run (e ∷ []) run
-  idle_leads run e idle right past s = ((right past s, tt), stands_idle m past e run idle s)
+  idle_leads : (run : Run) (a : Attempt) (why : AttemptError) (handed back : List V) → ((past : List (Event V)) → Stands m past run → Right m past (event_of a (Err why) handed back))
+      → Leads m run (event_of a (Err why) handed back ∷ []) run
+  idle_leads run a why handed back right past s = ((right past s, tt), stands_idle m past (event_of a (Err why) handed back) (not_accepted a why handed back) run s)
 
   -- opening
-  pub lead_opened : (rows phase : ℕ) (run : OpenRun) → AllKept (open_rules rows) → Begun rows phase run → Leads m Unopened (opened rows phase Accepted ∷ []) (Open run)
+  pub lead_opened : (rows phase : ℕ) (run : OpenRun) → AllKept (open_rules rows) → Begun rows phase run → Leads m Unopened (opened rows phase (Ok tt) ∷ []) (Open run)
   lead_opened rows phase run kept begun past s =
-      let e : Event V = opened rows phase Accepted in
-      let is : opening_in (past ++ e ∷ []) ≡ Some (record { rows = rows; phase = phase }) = opening_push past e ∙ ap (λ a. or_else a (Some (record { rows = rows; phase = phase }))) s.not_opened in
+      let e : Event V = opened rows phase (Ok tt) in
+      let opening : Opening = record { rows = rows; phase = phase } in
       let first : first_row_of run.chunk run.phase run.rows ≡ 0 = omega (arith, begun.first_chunk) in
       let eh : handed_in (past ++ e ∷ []) ≡ [] = handed_push past e ∙ append-nil (handed_in past) ∙ s.nothing_handed in
       let eb : back_in (past ++ e ∷ []) ≡ [] = back_push past e ∙ append-nil (back_in past) ∙ s.nothing_back in (
-        (subst (λ o. RightOpening o rows Accepted) (sym s.not_opened) kept, tt),
+        (rw s.not_opened kept, tt),
         record {
-          opened_for = record { opening = record { rows = rows; phase = phase }; is = is; rows_are = sym begun.rows_are; phase_is = sym begun.phase_is };
+          opened_for = record { opening = opening; is = opening_push past e ∙ rw s.not_opened refl; rows_are = sym begun.rows_are; phase_is = sym begun.phase_is };
           not_ended = omega (arith, ends_push past e, s.not_ended);
           steps = omega (arith, steps_push past e, s.no_steps, begun.first_chunk);
           rows_of_set = λ h. absurd (omega (arith, begun.first_chunk));
           done = record {
             all_rows = ap length eh ∙ sym first;
-            replaced = subst (λ l. Replaced m.patch 0 l (back_in (past ++ e ∷ []))) (sym eh) (subst (λ l. Replaced m.patch 0 [] l) (sym eb) (replaced_none m.patch 0));
+            replaced = rw (eh, eb) (replaced_none m.patch 0);
             counted = begun.no_count ∙ ap (patches_below m.patch) (sym first);
           };
         },
       )
 
-  pub lead_not_opened : (rows phase : ℕ) (f : Refusal) → NamesFirst RunPart (open_rules rows) f → Leads m Unopened (opened rows phase (Refused f) ∷ []) Unopened
-  lead_not_opened rows phase f why =
-      idle_leads Unopened (opened rows phase (Refused f)) (record { no_opening = refl; no_step = refl; no_end = refl; none_handed = refl; none_back = refl })
-      (λ past s. subst (λ o. RightOpening o rows (Refused f)) (sym s.not_opened) why)
+  pub lead_not_opened : (rows phase : ℕ) (f : Refusal) → NamesFirst RunPart (open_rules rows) f → Leads m Unopened (opened rows phase (Err (Refused f)) ∷ []) Unopened
+  lead_not_opened rows phase f why = idle_leads Unopened (Open' rows phase) (Refused f) [] [] (λ past s. rw s.not_opened why)
 
-  -- a second opening is not made
-  opening_not_made : (run : Run) (rows phase : ℕ) → ((past : List (Event V)) → Stands m past run → (o : Opening) × (opening_in past ≡ Some o)) → Leads m run (opened rows phase NotMade ∷ []) run
-  opening_not_made run rows phase has =
-      idle_leads run (opened rows phase NotMade) (record { no_opening = refl; no_step = refl; no_end = refl; none_handed = refl; none_back = refl })
-      (λ past s. subst (λ o. RightOpening o rows NotMade) (sym (has past s).1) refl)
-
-  pub second_opening : (run : OpenRun) (rows phase : ℕ) → Leads m (Open run) (opened rows phase NotMade ∷ []) (Open run)
-  second_opening run rows phase = opening_not_made (Open run) rows phase (λ past s. (s.opened_for.opening, s.opened_for.is))
-
-  -- a run that is closed, or abandoned, or not opened yet, is not there to step, to close or to abandon
-  module _ (run : Run) (none : (past : List (Event V)) → Stands m past run → open_after past ≡ None) where
-    step_not_made : (rows_of_set : ℕ) (cells : List V) → Leads m run (stepped rows_of_set NotMade cells cells ∷ []) run
-    step_not_made rows_of_set cells =
-        idle_leads run (stepped rows_of_set NotMade cells cells) (record { no_opening = refl; no_step = refl; no_end = refl; none_handed = refl; none_back = refl })
-        (λ past s. (
-          subst (λ o. RightStep o (steps_in past) (length cells) (min rows_of_set m.rows) NotMade) (sym (none past s)) refl,
-          subst (λ o. RightCells m.patch o (steps_in past) NotMade cells cells) (sym (none past s)) refl,
-        ))
-
-    close_not_made : Leads m run (closed NotMade ∷ []) run
-    close_not_made =
-        idle_leads run (closed NotMade) (record { no_opening = refl; no_step = refl; no_end = refl; none_handed = refl; none_back = refl })
-        (λ past s. subst (λ o. RightClosing o (steps_in past) NotMade) (sym (none past s)) refl)
-
-    abandon_not_made : Leads m run (abandoned NotMade ∷ []) run
-    abandon_not_made =
-        idle_leads run (abandoned NotMade) (record { no_opening = refl; no_step = refl; no_end = refl; none_handed = refl; none_back = refl })
-        (λ past s. subst (λ o. RightAbandoning o NotMade) (sym (none past s)) refl)
-
-    -- no attempt but an opening
-    later_not_made : (a : Attempt) (cells : List V) → ((rows phase : ℕ) → Leads m run (opened rows phase NotMade ∷ []) run) → Leads m run (event_of a NotMade cells cells ∷ []) run
-    later_not_made (Open' rows phase) cells at_open = at_open rows phase
-    later_not_made (Step n rows_of_set) cells at_open = step_not_made rows_of_set cells
-    later_not_made Close cells at_open = close_not_made
-    later_not_made Abandon cells at_open = abandon_not_made
-
-  unopened_none : (past : List (Event V)) → Stands m past Unopened → open_after past ≡ None
-  unopened_none past s = open_now past None s.not_opened s.not_ended
+  -- where no run is open, no attempt but an opening is made
+  right_aside : (past : List (Event V)) (a : Attempt) (cells : List V) → open_after past ≡ None → ((rows phase : ℕ) → a ≡ Open' rows phase → RightOpening (opening_in past) rows (Err NotMade)) → Right m past (event_of a (Err NotMade) cells cells)
+  right_aside past (Open' rows phase) cells none opening = opening rows phase refl
+  right_aside past (Step n rows_of_set) cells none opening = rw none (refl, refl)
+  right_aside past Close cells none opening = rw none refl
+  right_aside past Abandon cells none opening = rw none refl
 
   -- before a run is opened only an opening is made
-  pub unopened_aside : (a : Attempt) → ((rows phase : ℕ) → a ≡ Open' rows phase → ⊥) → LeadsAside m Unopened a NotMade Unopened
-  unopened_aside (Open' rows phase) not-open cells = absurd (not-open rows phase refl)
-  unopened_aside (Step n rows_of_set) not-open cells = step_not_made Unopened unopened_none rows_of_set cells
-  unopened_aside Close not-open cells = close_not_made Unopened unopened_none
-  unopened_aside Abandon not-open cells = abandon_not_made Unopened unopened_none
+  pub unopened_aside : (a : Attempt) → ((rows phase : ℕ) → a ≡ Open' rows phase → ⊥) → LeadsAside m Unopened a (Err NotMade) Unopened
+  unopened_aside a not-open cells =
+      idle_leads Unopened a NotMade cells cells (λ past s. right_aside past a cells (open_now past None s.not_opened s.not_ended) (λ rows phase is. absurd (not-open rows phase is)))
 
-  pub closed_stays : (run : ClosedRun) (a : Attempt) (cells : List V) → Leads m (Closed run) (event_of a NotMade cells cells ∷ []) (Closed run)
+  -- a run that was opened is not opened again, and one that has ended is not there to step, to close or to abandon
+  pub second_opening : (run : OpenRun) (rows phase : ℕ) → Leads m (Open run) (opened rows phase (Err NotMade) ∷ []) (Open run)
+  second_opening run rows phase = idle_leads (Open run) (Open' rows phase) NotMade [] [] (λ past s. rw s.opened_for.is refl)
+
+  pub closed_stays : (run : ClosedRun) (a : Attempt) (cells : List V) → Leads m (Closed run) (event_of a (Err NotMade) cells cells ∷ []) (Closed run)
   closed_stays run a cells =
-      later_not_made (Closed run) (λ past s. ended_now past s.ended) a cells (λ rows phase. opening_not_made (Closed run) rows phase (λ past s. (s.opened_for.opening, s.opened_for.is)))
+      idle_leads (Closed run) a NotMade cells cells (λ past s. right_aside past a cells (ended_now past s.ended) (λ rows phase is. rw s.opened_for.is refl))
 
-  pub abandoned_stays : (a : Attempt) (cells : List V) → Leads m Abandoned (event_of a NotMade cells cells ∷ []) Abandoned
+  pub abandoned_stays : (a : Attempt) (cells : List V) → Leads m Abandoned (event_of a (Err NotMade) cells cells ∷ []) Abandoned
   abandoned_stays a cells =
-      later_not_made Abandoned (λ past s. ended_now past s.ended) a cells (λ rows phase. opening_not_made Abandoned rows phase (λ past s. (s.opened_for.opening, s.opened_for.is)))
+      idle_leads Abandoned a NotMade cells cells (λ past s. right_aside past a cells (ended_now past s.ended) (λ rows phase is. rw s.opened_for.is refl))
 
   -- what is open after the past of an open run
   module _ (run : OpenRun) (past : List (Event V)) (s : Stands m past (Open run)) where
-    opening : Opening
-    opening = s.opened_for.opening
-
     open_here : open_after past ≡ Some s.opened_for.opening
     open_here = open_now past (Some s.opened_for.opening) s.opened_for.is s.not_ended
 
     -- the rules at the chunk of the past are those at the run's chunk
     step_at : (n rows_of_set : ℕ) (outcome : Outcome) → Answered (step_rules run.rows run.phase run.chunk n rows_of_set) outcome → RightStep (open_after past) (steps_in past) n rows_of_set outcome
-    step_at n rows_of_set outcome h =
-        subst (λ o. RightStep o (steps_in past) n rows_of_set outcome) (sym open_here)
-        (subst (λ r. Answered (step_rules r (s.opened_for.opening.phase % 1024) (steps_in past) n rows_of_set) outcome) (sym s.opened_for.rows_are)
-        (subst (λ p. Answered (step_rules run.rows p (steps_in past) n rows_of_set) outcome) (sym s.opened_for.phase_is)
-        (subst (λ c. Answered (step_rules run.rows run.phase c n rows_of_set) outcome) (sym s.steps) h)))
+    step_at n rows_of_set outcome h = rw (open_here, s.opened_for.rows_are, s.opened_for.phase_is, s.steps) h
 
     close_at : (outcome : Outcome) → Answered (close_rules run.rows run.phase run.chunk) outcome → RightClosing (open_after past) (steps_in past) outcome
-    close_at outcome h =
-        subst (λ o. RightClosing o (steps_in past) outcome) (sym open_here)
-        (subst (λ r. Answered (close_rules r (s.opened_for.opening.phase % 1024) (steps_in past)) outcome) (sym s.opened_for.rows_are)
-        (subst (λ p. Answered (close_rules run.rows p (steps_in past)) outcome) (sym s.opened_for.phase_is)
-        (subst (λ c. Answered (close_rules run.rows run.phase c) outcome) (sym s.steps) h)))
+    close_at outcome h = rw (open_here, s.opened_for.rows_are, s.opened_for.phase_is, s.steps) h
 
-    cells_at : (before after : List V) → Replaced m.patch (first_row_of run.chunk run.phase run.rows) before after → RightCells m.patch (open_after past) (steps_in past) Accepted before after
-    cells_at before after h =
-        subst (λ o. RightCells m.patch o (steps_in past) Accepted before after) (sym open_here)
-        (subst (λ r. Replaced m.patch (first_row_of (steps_in past) (s.opened_for.opening.phase % 1024) r) before after) (sym s.opened_for.rows_are)
-        (subst (λ p. Replaced m.patch (first_row_of (steps_in past) p run.rows) before after) (sym s.opened_for.phase_is)
-        (subst (λ c. Replaced m.patch (first_row_of c run.phase run.rows) before after) (sym s.steps) h)))
+    cells_at : (before after : List V) → Replaced m.patch (first_row_of run.chunk run.phase run.rows) before after → RightCells m.patch (open_after past) (steps_in past) (Ok tt) before after
+    cells_at before after h = rw (open_here, s.opened_for.rows_are, s.opened_for.phase_is, s.steps) h
 
-    cells_kept : (f : Refusal) (cells : List V) → RightCells m.patch (open_after past) (steps_in past) (Refused f) cells cells
-    cells_kept f cells = subst (λ o. RightCells m.patch o (steps_in past) (Refused f) cells cells) (sym open_here) refl
+    cells_kept : (f : Refusal) (cells : List V) → RightCells m.patch (open_after past) (steps_in past) (Err (Refused f)) cells cells
+    cells_kept f cells = rw open_here refl
 
   -- a refused step
-  pub lead_refused : (run : OpenRun) (rows_of_set : ℕ) (f : Refusal) (cells : List V) → NamesFirst RunPart (step_rules run.rows run.phase run.chunk (length cells) (min rows_of_set m.rows)) f → Leads m (Open run) (stepped rows_of_set (Refused f) cells cells ∷ []) (Open run)
+  lead_refused : (run : OpenRun) (rows_of_set : ℕ) (f : Refusal) (cells : List V) → NamesFirst RunPart (step_rules run.rows run.phase run.chunk (length cells) (min rows_of_set m.rows)) f → Leads m (Open run) (stepped rows_of_set (Err (Refused f)) cells cells ∷ []) (Open run)
   lead_refused run rows_of_set f cells why =
-      idle_leads (Open run) (stepped rows_of_set (Refused f) cells cells) (record { no_opening = refl; no_step = refl; no_end = refl; none_handed = refl; none_back = refl })
-      (λ past s. (step_at run past s (length cells) (min rows_of_set m.rows) (Refused f) why, cells_kept run past s f cells))
+      idle_leads (Open run) (Step 0 rows_of_set) (Refused f) cells cells
+      (λ past s. (step_at run past s (length cells) (min rows_of_set m.rows) (Err (Refused f)) why, cells_kept run past s f cells))
 
   -- an accepted step
-  pub lead_stepped : (run next : OpenRun) (rows_of_set : ℕ) (before after : List V) → AllKept (step_rules run.rows run.phase run.chunk (length before) (min rows_of_set m.rows)) → Advanced m.patch run next before after
-      → Leads m (Open run) (stepped rows_of_set Accepted before after ∷ []) (Open next)
+  lead_stepped : (run next : OpenRun) (rows_of_set : ℕ) (before after : List V) → AllKept (step_rules run.rows run.phase run.chunk (length before) (min rows_of_set m.rows)) → Advanced m.patch run next before after
+      → Leads m (Open run) (stepped rows_of_set (Ok tt) before after ∷ []) (Open next)
   lead_stepped run next rows_of_set before after kept adv past s =
-      let e : Event V = stepped rows_of_set Accepted before after in
-      let there : run.chunk < count_of_chunks run.phase run.rows = not_past run.chunk (count_of_chunks run.phase run.rows) (λ h. kept.0 run.chunk (refl, h)) in
-      let long : length before ≡ end_row_of run.chunk run.phase run.rows - first_row_of run.chunk run.phase run.rows = same_by (length before) (end_row_of run.chunk run.phase run.rows - first_row_of run.chunk run.phase run.rows) (λ h. kept.1.0 0 (refl, h)) in
-      let rows : min rows_of_set m.rows ≡ run.rows = same_by (min rows_of_set m.rows) run.rows (λ h. kept.1.1.0 0 (refl, h)) in
-      let to : first_row_of next.chunk next.phase next.rows ≡ end_row_of run.chunk run.phase run.rows =
-      ap (λ c. first_row_of c next.phase next.rows) adv.next_chunk ∙ ap (λ p. first_row_of (run.chunk + 1) p next.rows) adv.phase_stays ∙ ap (λ r. first_row_of (run.chunk + 1) run.phase r) adv.rows_stay in
+      let e : Event V = stepped rows_of_set (Ok tt) before after in
+      let past_all : count_of_chunks run.phase run.rows ≤ run.chunk → ⊥ = λ h. kept.0 run.chunk (refl, h) in
+      let there : run.chunk < count_of_chunks run.phase run.rows = omega arith in
+      let long : length before ≡ end_row_of run.chunk run.phase run.rows - first_row_of run.chunk run.phase run.rows = same_by _ _ (λ h. kept.1.0 0 (refl, h)) in
+      let rows : min rows_of_set m.rows ≡ run.rows = same_by _ _ (λ h. kept.1.1.0 0 (refl, h)) in
+      let to : first_row_of next.chunk next.phase next.rows ≡ end_row_of run.chunk run.phase run.rows = rw (adv.next_chunk, adv.phase_stays, adv.rows_stay) refl in
       let up : end_row_of run.chunk run.phase run.rows ≡ first_row_of run.chunk run.phase run.rows + length before = omega arith in (
-        ((step_at run past s (length before) (min rows_of_set m.rows) Accepted kept, cells_at run past s before after adv.replaced), tt),
+        ((step_at run past s (length before) (min rows_of_set m.rows) (Ok tt) kept, cells_at run past s before after adv.replaced), tt),
         record {
           opened_for = record { opening = s.opened_for.opening; is = opening_stays past e s.opened_for.opening s.opened_for.is; rows_are = s.opened_for.rows_are ∙ sym adv.rows_stay; phase_is = s.opened_for.phase_is ∙ sym adv.phase_stays };
           not_ended = omega (arith, ends_push past e, s.not_ended);
           steps = omega (arith, steps_push past e, s.steps, adv.next_chunk);
           rows_of_set = λ h. omega (arith, adv.rows_stay, rows);
-          done = subst (λ n. WentThrough m (past ++ e ∷ []) n next.count) (sym to)
-              (went_more m past e _ run.count _ next.count before after (handed_push past e) (back_push past e) up adv.counted adv.replaced s.done);
+          done = rw to (went_more m past e _ run.count _ next.count before after (handed_push past e) (back_push past e) up adv.counted adv.replaced s.done);
         },
       )
 
   -- closing
-  pub lead_closed : (run : OpenRun) (end : ClosedRun) → AllKept (close_rules run.rows run.phase run.chunk) → end.rows ≡ run.rows → end.count ≡ run.count → Leads m (Open run) (closed Accepted ∷ []) (Closed end)
+  pub lead_closed : (run : OpenRun) (end : ClosedRun) → AllKept (close_rules run.rows run.phase run.chunk) → end.rows ≡ run.rows → end.count ≡ run.count → Leads m (Open run) (closed (Ok tt) ∷ []) (Closed end)
   lead_closed run end kept rows_are count_is past s =
-      let e : Event V = closed Accepted in
-      let past_all : count_of_chunks run.phase run.rows ≤ run.chunk = not_below run.chunk (count_of_chunks run.phase run.rows) (λ h. kept.0 0 (refl, h)) in
+      let e : Event V = closed (Ok tt) in
+      let left : run.chunk < count_of_chunks run.phase run.rows → ⊥ = λ h. kept.0 0 (refl, h) in
+      let past_all : count_of_chunks run.phase run.rows ≤ run.chunk = omega arith in
       let all : first_row_of run.chunk run.phase run.rows ≡ end.rows = all_rows run.chunk run.phase run.rows run.small past_all ∙ sym rows_are in
-      let w : WentThrough m past end.rows end.count = subst (λ n. WentThrough m past n end.count) all (subst (λ k. WentThrough m past (first_row_of run.chunk run.phase run.rows) k) (sym count_is) s.done) in
       let eh : handed_in (past ++ e ∷ []) ≡ handed_in past = handed_push past e ∙ append-nil (handed_in past) in
       let eb : back_in (past ++ e ∷ []) ≡ back_in past = back_push past e ∙ append-nil (back_in past) in (
-        (close_at run past s Accepted kept, tt),
+        (close_at run past s (Ok tt) kept, tt),
         record {
           phase = run.phase;
           opened_for = record { opening = s.opened_for.opening; is = opening_stays past e s.opened_for.opening s.opened_for.is; rows_are = s.opened_for.rows_are ∙ sym rows_are; phase_is = s.opened_for.phase_is };
           ended = omega (arith, ends_push past e, s.not_ended);
           rows_of_set = elim (cases_lt 0 run.chunk) [ inl h ↦ omega (arith, s.rows_of_set h) | inr h ↦ omega (arith, no_rows run.chunk run.phase run.rows past_all h) ];
           done = record {
-            all_rows = ap length eh ∙ w.all_rows;
-            replaced = subst (λ l. Replaced m.patch 0 l (back_in (past ++ e ∷ []))) (sym eh) (subst (λ l. Replaced m.patch 0 (handed_in past) l) (sym eb) w.replaced);
-            counted = w.counted;
+            all_rows = ap length eh ∙ s.done.all_rows ∙ all;
+            replaced = rw (eh, eb) s.done.replaced;
+            counted = count_is ∙ s.done.counted ∙ ap (patches_below m.patch) all;
           };
         },
       )
@@ -279,20 +221,18 @@ module _ {V : Type 0} (m : Assignment V) where
       no_rows : (chunk phase rows : ℕ) → count_of_chunks phase rows ≤ chunk → chunk ≤ 0 → rows ≡ 0
       no_rows chunk phase rows h z = grind (arith, nat_tests)
 
-  pub lead_not_closed : (run : OpenRun) (f : Refusal) → NamesFirst RunPart (close_rules run.rows run.phase run.chunk) f → Leads m (Open run) (closed (Refused f) ∷ []) (Open run)
-  lead_not_closed run f why =
-      idle_leads (Open run) (closed (Refused f)) (record { no_opening = refl; no_step = refl; no_end = refl; none_handed = refl; none_back = refl })
-      (λ past s. close_at run past s (Refused f) why)
+  pub lead_not_closed : (run : OpenRun) (f : Refusal) → NamesFirst RunPart (close_rules run.rows run.phase run.chunk) f → Leads m (Open run) (closed (Err (Refused f)) ∷ []) (Open run)
+  lead_not_closed run f why = idle_leads (Open run) Close (Refused f) [] [] (λ past s. close_at run past s (Err (Refused f)) why)
 
   -- abandoning
-  pub lead_abandoned : (run : OpenRun) → Leads m (Open run) (abandoned Accepted ∷ []) Abandoned
+  pub lead_abandoned : (run : OpenRun) → Leads m (Open run) (abandoned (Ok tt) ∷ []) Abandoned
   lead_abandoned run past s =
-      let e : Event V = abandoned Accepted in (
-        (subst (λ o. RightAbandoning o Accepted) (sym (open_here run past s)) refl, tt),
+      let e : Event V = abandoned (Ok tt) in (
+        (rw (open_here run past s) refl, tt),
         record {
           rows = run.rows;
           phase = run.phase;
-          opened_for = record { opening = s.opened_for.opening; is = opening_stays past e s.opened_for.opening s.opened_for.is; rows_are = s.opened_for.rows_are; phase_is = s.opened_for.phase_is };
+          opened_for = opened_more m past e run.rows run.phase s.opened_for;
           ended = omega (arith, ends_push past e, s.not_ended);
         },
       )
@@ -312,9 +252,9 @@ module _ {V : Type 0} (m : Assignment V) where
     pub lead_part : (r : Result Unit Refusal) → Judged RunPart (step_rules run.rows run.phase run.chunk (length before) w.rows) r → Stepped w.patch run next before after r
         → (o : Outcome) → o ≡ outcome_of r → Leads m (Open run) (stepped rows_of_set o before after ∷ []) (Open next)
     lead_part (Ok u) judged adv o is =
-        let kept : AllKept (step_rules run.rows run.phase run.chunk (length before) (min rows_of_set m.rows)) = subst (λ n. AllKept (step_rules run.rows run.phase run.chunk (length before) n)) part_rows judged in
-        let long : length before ≡ end_row_of run.chunk run.phase run.rows - first_row_of run.chunk run.phase run.rows = same_by (length before) (end_row_of run.chunk run.phase run.rows - first_row_of run.chunk run.phase run.rows) (λ h. judged.1.0 0 (refl, h)) in
-        let rows : w.rows ≡ run.rows = same_by w.rows run.rows (λ h. judged.1.1.0 0 (refl, h)) in
+        let kept : AllKept (step_rules run.rows run.phase run.chunk (length before) (min rows_of_set m.rows)) = rw part_rows at judged in
+        let long : length before ≡ end_row_of run.chunk run.phase run.rows - first_row_of run.chunk run.phase run.rows = same_by _ _ (λ h. judged.1.0 0 (refl, h)) in
+        let rows : w.rows ≡ run.rows = same_by _ _ (λ h. judged.1.1.0 0 (refl, h)) in
         let counts : (n : ℕ) → n ≤ run.rows → patches_below w.patch n ≡ patches_below m.patch n = λ n h. count_same w.patch m.patch n (λ k l. part_patch k (omega arith)) in
         let mine : Advanced m.patch run next before after = record {
           rows_stay = adv.rows_stay;
@@ -323,31 +263,25 @@ module _ {V : Type 0} (m : Assignment V) where
           counted = omega (arith, adv.counted, counts (first_row_of run.chunk run.phase run.rows) (omega arith), counts (end_row_of run.chunk run.phase run.rows) (omega arith));
           replaced = replaced_same m.patch w.patch (first_row_of run.chunk run.phase run.rows) before after (λ k h. part_patch (first_row_of run.chunk run.phase run.rows + k) (omega arith)) adv.replaced;
         } in
-        subst (λ x. Leads m (Open run) (stepped rows_of_set x before after ∷ []) (Open next)) (sym is) (lead_stepped run next rows_of_set before after kept mine)
+        rw is (lead_stepped run next rows_of_set before after kept mine)
     lead_part (Err f) judged left o is =
-        let why : NamesFirst RunPart (step_rules run.rows run.phase run.chunk (length before) (min rows_of_set m.rows)) f = subst (λ n. NamesFirst RunPart (step_rules run.rows run.phase run.chunk (length before) n) f) part_rows judged in
-        subst (λ x. Leads m (Open run) (stepped rows_of_set x before after ∷ []) (Open next)) (sym is)
-        (subst (λ cells. Leads m (Open run) (stepped rows_of_set (Refused f) before cells ∷ []) (Open next)) (sym left.1)
-        (subst (λ n. Leads m (Open run) (stepped rows_of_set (Refused f) before before ∷ []) (Open n)) (sym left.0) (lead_refused run rows_of_set f before why)))
+        let why : NamesFirst RunPart (step_rules run.rows run.phase run.chunk (length before) (min rows_of_set m.rows)) f = rw part_rows at judged in
+        rw (is, left.1, left.0) (lead_refused run rows_of_set f before why)
 
   -- one list of events after another
   right_append : (past es fs : List (Event V)) → AllRight m past es → AllRight m (past ++ es) fs → AllRight m past (es ++ fs)
-  right_append past [] fs a b = subst (λ l. AllRight m l fs) (append-nil past) b
-  right_append past (e ∷ es) fs a b =
-      (a.0, right_append (past ++ e ∷ []) es fs a.1 (subst (λ l. AllRight m l fs) (sym (append_assoc past (e ∷ []) es)) b))
+  right_append past [] fs a b = rw append-nil at b
+  right_append past (e ∷ es) fs a b = (a.0, right_append (past ++ e ∷ []) es fs a.1 (rw append_assoc b))
 
   pub leads_then : (run mid next : Run) (es fs : List (Event V)) → Leads m run es mid → Leads m mid fs next → Leads m run (es ++ fs) next
   leads_then run mid next es fs a b past s =
       let first = a past s in
       let then = b (past ++ es) first.1 in
-      (right_append past es fs first.0 then.0, subst (λ l. Stands m l next) (append_assoc past es fs) then.1)
-
-  pub leads_nothing : (run : Run) → Leads m run [] run
-  leads_nothing run past s = (tt, subst (λ l. Stands m l run) (sym (append-nil past)) s)
+      (right_append past es fs first.0 then.0, rw append_assoc at then.1)
 
   -- from the very beginning
-  pub begins : NotOpened {V = V} []
+  begins : NotOpened {V = V} []
   begins = record { not_opened = refl; no_steps = refl; not_ended = refl; nothing_handed = refl; nothing_back = refl }
 
   pub every_list_lem : (run next : Run) (es : List (Event V)) → Leads m run es next → run ≡ Unopened → AllRight m [] es × Stands m es next
-  every_list_lem run next es leads is = subst (λ r. Leads m r es next) is leads [] begins
+  every_list_lem run next es leads is = leads [] (rw is begins)

@@ -35,7 +35,7 @@ module _ {V : Type 0} (patch : ℕ → Patch V) (start : ℕ) (before : List V) 
   }
 
   -- a row with a patch
-  pub partly_hit : (row n : ℕ) (cells : List V) (v : V) → start ≤ row → row < start + length before → patch row ≡ Some v → Partly row cells n → Partly (row + 1) (set cells (row - start) v) (n + 1)
+  partly_hit : (row n : ℕ) (cells : List V) (v : V) → start ≤ row → row < start + length before → patch row ≡ Some v → Partly row cells n → Partly (row + 1) (set cells (row - start) v) (n + 1)
   partly_hit row n cells v low high e p =
       let here : start + (row - start) ≡ row = omega arith in
       let within : row - start < length cells = omega (arith, p.as_long) in
@@ -52,15 +52,9 @@ module _ {V : Type 0} (patch : ℕ → Patch V) (start : ℕ) (before : List V) 
         rest = λ k d h. let ne : k ≢ row - start = omega arith in rw get_or-set_other (p.rest k d (omega arith));
       }
 
-  -- the row that is found next: its patch is put into its cell, or it has none
-  module _ (row next n : ℕ) (cells : List V) (low : start ≤ row) (up : row ≤ next) (none : NoneFrom patch row next) (p : Partly row cells n) where
-    pub to_hit : (v : V) → next < start + length before → patch next ≡ Some v → Partly (next + 1) (set cells (next - start) v) (n + 1)
-    to_hit v lt e = partly_hit next n cells v (omega arith) lt e (partly_skip row next n cells up none p)
-
-    pub to_miss : patch next ≡ None → Partly (next + 1) cells n
-    to_miss e =
-        partly_skip next (next + 1) n cells (omega arith) (λ k a b. let z : k ≡ next = omega arith in rw z e)
-        (partly_skip row next n cells up none p)
+  -- the row that is found next: its patch is put into its cell
+  pub partly_next : (row next n : ℕ) (cells : List V) (v : V) → start ≤ row → row ≤ next → next < start + length before → NoneFrom patch row next → patch next ≡ Some v → Partly row cells n → Partly (next + 1) (set cells (next - start) v) (n + 1)
+  partly_next row next n cells v low up lt none is p = partly_hit next n cells v (omega arith) lt is (partly_skip row next n cells up none p)
 
   pub partly_all : (row n : ℕ) (cells : List V) → row ≤ start + length before → NoneFrom patch row (start + length before) → Partly row cells n → Partly (start + length before) cells n
   partly_all row n cells le none p = partly_skip row (start + length before) n cells le none p

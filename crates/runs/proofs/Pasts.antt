@@ -1,42 +1,25 @@
 -- What one more event adds to the past.
-use Rattle.std.proofs.Common.{◌≡◌, ◌+◌, List, [], ◌∷◌, ◌++◌, Some, None, Option, sym, refl, ap, ◌∙◌, arith}
-use Rattle.std.specs.List.{flat_map}
+use Rattle.std.proofs.Common.{◌≡◌, ◌+◌, List, [], ◌∷◌, ◌++◌, Some, None, Err, Option, sym, refl, ap, ◌∙◌, arith}
+use Rattle.std.specs.Option.{option_or}
 use Rattle.std.proofs.lemmas.List.{flat_map_more, append-nil}
-use Rattle.runs.specs.Events.{Event, opening_of, opening_in, or_else, Opening, step_of, steps_in, end_of, ends_in, handed_of, handed_in, back_of, back_in}
+use Rattle.std.proofs.lemmas.List.Sums.{sum_by_push}
+use Rattle.runs.specs.declared.attempts.Attempt.{Attempt}
+use Rattle.runs.specs.declared.attempts.Attempt.TheVariants.{Open, Step, Close, Abandon}
+use Rattle.runs.specs.declared.attempts.AttemptError.{AttemptError}
+use Rattle.runs.specs.Events.{Event, event_of, Opening, opening_of, opening_in, step_of, steps_in, end_of, ends_in, handed_of, handed_in, back_of, back_in}
 
-else_none : {A : Type 0} (a : Option A) → or_else a None ≡ a
-else_none None = refl
-else_none (Some x) = refl
+or_none : {A : Type 0} (a : Option A) → option_or a None ≡ a
+or_none None = refl
+or_none (Some x) = refl
 
-else_assoc : {A : Type 0} (a b c : Option A) → or_else a (or_else b c) ≡ or_else (or_else a b) c
-else_assoc None b c = refl
-else_assoc (Some x) b c = refl
-
-pub joined_push : {X A : Type 0} (f : X → List A) (xs : List X) (x : X) → flat_map f (xs ++ x ∷ []) ≡ flat_map f xs ++ f x
-joined_push f xs x = sym (flat_map_more f [] xs x)
+or_assoc : {A : Type 0} (a b c : Option A) → option_or a (option_or b c) ≡ option_or (option_or a b) c
+or_assoc None b c = refl
+or_assoc (Some x) b c = refl
 
 module _ {V : Type 0} where
-  pub opening_push : (past : List (Event V)) (e : Event V) → opening_in (past ++ e ∷ []) ≡ or_else (opening_in past) (opening_of e)
-  opening_push [] e = else_none (opening_of e)
-  opening_push (x ∷ past) e = ap (or_else (opening_of x)) (opening_push past e) ∙ else_assoc (opening_of x) (opening_in past) (opening_of e)
-
-  pub steps_push : (past : List (Event V)) (e : Event V) → steps_in (past ++ e ∷ []) ≡ steps_in past + step_of e
-  steps_push [] e = omega arith
-  steps_push (x ∷ past) e = omega (arith, steps_push past e)
-
-  pub ends_push : (past : List (Event V)) (e : Event V) → ends_in (past ++ e ∷ []) ≡ ends_in past + end_of e
-  ends_push [] e = omega arith
-  ends_push (x ∷ past) e = omega (arith, ends_push past e)
-
-  pub handed_push : (past : List (Event V)) (e : Event V) → handed_in (past ++ e ∷ []) ≡ handed_in past ++ handed_of e
-  handed_push past e = joined_push handed_of past e
-
-  pub back_push : (past : List (Event V)) (e : Event V) → back_in (past ++ e ∷ []) ≡ back_in past ++ back_of e
-  back_push past e = joined_push back_of past e
-
-  -- an opening stays what it was
-  pub opening_stays : (past : List (Event V)) (e : Event V) (o : Opening) → opening_in past ≡ Some o → opening_in (past ++ e ∷ []) ≡ Some o
-  opening_stays past e o is = opening_push past e ∙ ap (λ a. or_else a (opening_of e)) is
+  pub opening_push : (past : List (Event V)) (e : Event V) → opening_in (past ++ e ∷ []) ≡ option_or (opening_in past) (opening_of e)
+  opening_push [] e = or_none (opening_of e)
+  opening_push (x ∷ past) e = ap (option_or (opening_of x)) (opening_push past e) ∙ or_assoc (opening_of x) (opening_in past) (opening_of e)
 
   -- an event that changes nothing: it was not accepted
   pub record Idle (e : Event V) : Type 0 where
@@ -46,18 +29,41 @@ module _ {V : Type 0} where
     pub none_handed : handed_of e ≡ []
     pub none_back : back_of e ≡ []
 
-  module _ (past : List (Event V)) (e : Event V) (idle : Idle e) where
-    pub opening_idle : opening_in (past ++ e ∷ []) ≡ opening_in past
-    opening_idle = opening_push past e ∙ ap (or_else (opening_in past)) idle.no_opening ∙ else_none (opening_in past)
+  pub not_accepted : (a : Attempt) (why : AttemptError) (handed back : List V) → Idle (event_of a (Err why) handed back)
+  not_accepted (Open rows phase) why handed back = record { no_opening = refl; no_step = refl; no_end = refl; none_handed = refl; none_back = refl }
+  not_accepted (Step cells rows) why handed back = record { no_opening = refl; no_step = refl; no_end = refl; none_handed = refl; none_back = refl }
+  not_accepted Close why handed back = record { no_opening = refl; no_step = refl; no_end = refl; none_handed = refl; none_back = refl }
+  not_accepted Abandon why handed back = record { no_opening = refl; no_step = refl; no_end = refl; none_handed = refl; none_back = refl }
 
-    pub steps_idle : steps_in (past ++ e ∷ []) ≡ steps_in past
-    steps_idle = omega (arith, steps_push past e, idle.no_step)
+  module _ (past : List (Event V)) (e : Event V) where
+    pub steps_push : steps_in (past ++ e ∷ []) ≡ steps_in past + step_of e
+    steps_push = sum_by_push step_of past e
 
-    pub ends_idle : ends_in (past ++ e ∷ []) ≡ ends_in past
-    ends_idle = omega (arith, ends_push past e, idle.no_end)
+    pub ends_push : ends_in (past ++ e ∷ []) ≡ ends_in past + end_of e
+    ends_push = sum_by_push end_of past e
 
-    pub handed_idle : handed_in (past ++ e ∷ []) ≡ handed_in past
-    handed_idle = handed_push past e ∙ ap (λ l. handed_in past ++ l) idle.none_handed ∙ append-nil (handed_in past)
+    pub handed_push : handed_in (past ++ e ∷ []) ≡ handed_in past ++ handed_of e
+    handed_push = sym (flat_map_more handed_of [] past e)
 
-    pub back_idle : back_in (past ++ e ∷ []) ≡ back_in past
-    back_idle = back_push past e ∙ ap (λ l. back_in past ++ l) idle.none_back ∙ append-nil (back_in past)
+    pub back_push : back_in (past ++ e ∷ []) ≡ back_in past ++ back_of e
+    back_push = sym (flat_map_more back_of [] past e)
+
+    -- an opening stays what it was
+    pub opening_stays : (o : Opening) → opening_in past ≡ Some o → opening_in (past ++ e ∷ []) ≡ Some o
+    opening_stays o is = opening_push past e ∙ ap (λ a. option_or a (opening_of e)) is
+
+    module _ (idle : Idle e) where
+      pub opening_idle : opening_in (past ++ e ∷ []) ≡ opening_in past
+      opening_idle = opening_push past e ∙ ap (option_or (opening_in past)) idle.no_opening ∙ or_none (opening_in past)
+
+      pub steps_idle : steps_in (past ++ e ∷ []) ≡ steps_in past
+      steps_idle = omega (arith, steps_push, idle.no_step)
+
+      pub ends_idle : ends_in (past ++ e ∷ []) ≡ ends_in past
+      ends_idle = omega (arith, ends_push, idle.no_end)
+
+      pub handed_idle : handed_in (past ++ e ∷ []) ≡ handed_in past
+      handed_idle = handed_push ∙ ap (λ l. handed_in past ++ l) idle.none_handed ∙ append-nil (handed_in past)
+
+      pub back_idle : back_in (past ++ e ∷ []) ≡ back_in past
+      back_idle = back_push ∙ ap (λ l. back_in past ++ l) idle.none_back ∙ append-nil (back_in past)

@@ -1,5 +1,5 @@
 -- Every list of attempts with one run: which are made, accepted or refused, and what the run has then done.
-use Rattle.std.specs.Prelude.{◌≡◌, ℕ, ◌%◌, ◌<◌, ◌≤◌, min, List, [], ◌∷◌, ◌++◌, length, Some, None, Option}
+use Rattle.std.specs.Prelude.{◌≡◌, ℕ, ◌%◌, ◌<◌, ◌≤◌, min, List, [], ◌∷◌, ◌++◌, length, Some, None, Ok, Err, Option}
 use Rattle.patches.specs.declared.refusal.Part.TheVariants.{Run as RunPart}
 use Rattle.patches.specs.Refusals.{Rule, AllKept, NamesFirst}
 use Rattle.patches.specs.Chunks.{first_row_of}
@@ -7,43 +7,41 @@ use Rattle.patches.specs.Assignments.{Patch, Assignment, patches_below}
 use Rattle.runs.specs.declared.run.OpenRun.{OpenRun}
 use Rattle.runs.specs.declared.run.ClosedRun.{ClosedRun}
 use Rattle.runs.specs.declared.attempts.Attempt.{Attempt}
-use Rattle.runs.specs.declared.attempts.Outcome.{Outcome}
-use Rattle.runs.specs.declared.attempts.Outcome.TheVariants.{NotMade, Accepted, Refused}
+use Rattle.runs.specs.declared.attempts.AttemptError.TheVariants.{NotMade, Refused}
 use Rattle.runs.specs.declared.attempts.Run.{Run}
 use Rattle.runs.specs.declared.attempts.Run.TheVariants.{Unopened, Open, Closed, Abandoned}
 use Rattle.runs.specs.Steps.{open_rules, step_rules, close_rules, Replaced}
-use Rattle.runs.specs.Events.{Event, event_of, opened, stepped, closed, abandoned, Opening, opening_in, open_after, steps_in, ends_in, handed_in, back_in}
+use Rattle.runs.specs.Events.{Outcome, Event, event_of, opened, stepped, closed, abandoned, Opening, opening_in, open_after, steps_in, ends_in, handed_in, back_in}
 
 -- an attempt that is made is accepted exactly when its rules are kept, and else refused by the first that is broken
 abbrev pub Answered : List Rule → Outcome → Type 0
-Answered rules NotMade = ⊥
-Answered rules Accepted = AllKept rules
-Answered rules (Refused refusal) = NamesFirst RunPart rules refusal
+Answered rules (Ok _) = AllKept rules
+Answered rules (Err NotMade) = ⊥
+Answered rules (Err (Refused refusal)) = NamesFirst RunPart rules refusal
 
 -- a run is opened once: after an accepted opening no other is made
 abbrev pub RightOpening : Option Opening → ℕ → Outcome → Type 0
 RightOpening None rows outcome = Answered (open_rules rows) outcome
-RightOpening (Some opening) rows outcome = outcome ≡ NotMade
+RightOpening (Some opening) rows outcome = outcome ≡ Err NotMade
 
 -- a step of the open run: its chunk is the number of steps accepted before
 abbrev pub RightStep : Option Opening → ℕ → ℕ → ℕ → Outcome → Type 0
-RightStep None chunk n rows_of_set outcome = outcome ≡ NotMade
+RightStep None chunk n rows_of_set outcome = outcome ≡ Err NotMade
 RightStep (Some run) chunk n rows_of_set outcome = Answered (step_rules run.rows (run.phase % 1024) chunk n rows_of_set) outcome
 
 -- the cells of a step: an accepted one replaces those of patched rows, any other leaves them
 abbrev pub RightCells : {V : Type 0} → (ℕ → Patch V) → Option Opening → ℕ → Outcome → List V → List V → Type 0
 RightCells patch None chunk outcome handed back = back ≡ handed
-RightCells patch (Some run) chunk NotMade handed back = back ≡ handed
-RightCells patch (Some run) chunk Accepted handed back = Replaced patch (first_row_of chunk (run.phase % 1024) run.rows) handed back
-RightCells patch (Some run) chunk (Refused refusal) handed back = back ≡ handed
+RightCells patch (Some run) chunk (Ok _) handed back = Replaced patch (first_row_of chunk (run.phase % 1024) run.rows) handed back
+RightCells patch (Some run) chunk (Err _) handed back = back ≡ handed
 
 abbrev pub RightClosing : Option Opening → ℕ → Outcome → Type 0
-RightClosing None chunk outcome = outcome ≡ NotMade
+RightClosing None chunk outcome = outcome ≡ Err NotMade
 RightClosing (Some run) chunk outcome = Answered (close_rules run.rows (run.phase % 1024) chunk) outcome
 
 abbrev pub RightAbandoning : Option Opening → Outcome → Type 0
-RightAbandoning None outcome = outcome ≡ NotMade
-RightAbandoning (Some run) outcome = outcome ≡ Accepted
+RightAbandoning None outcome = outcome ≡ Err NotMade
+RightAbandoning (Some run) outcome = outcome ≡ Ok tt
 
 -- An event is as the rules say, after the events of the past. A step is handed the first so many rows of the set, or all
 -- of them where it has no more.

@@ -1,11 +1,15 @@
 -- What was attempted with a run, and what came of it.
-use Rattle.std.specs.Prelude.{ℕ, ◌+◌, cond, List, [], ◌∷◌, take, drop, Some, None, Option, ◌==◌}
-use Rattle.std.specs.List.{flat_map}
+use Rattle.std.specs.Prelude.{ℕ, cond, map, List, [], ◌∷◌, take, drop, Some, None, Option, Ok, Err, Result, ◌==◌}
+use Rattle.std.specs.List.{flat_map, sum_by}
+use Rattle.std.specs.Option.{option_or}
 use Rattle.runs.specs.declared.attempts.Attempt.{Attempt}
 use Rattle.runs.specs.declared.attempts.Attempt.TheVariants.{Open, Step, Close, Abandon}
-use Rattle.runs.specs.declared.attempts.Outcome.{Outcome}
-use Rattle.runs.specs.declared.attempts.Outcome.TheVariants.{NotMade, Accepted, Refused}
+use Rattle.runs.specs.declared.attempts.AttemptError.{AttemptError}
 use Rattle.runs.specs.declared.attempts.Entry.{Entry}
+
+-- what came of an attempt
+abbrev pub Outcome : Type 0
+Outcome = Result Unit AttemptError
 
 -- An attempt with its outcome: to open a run for rows in a phase; to step, with a set of so many rows, the cells that
 -- were handed in and what they held afterwards; to close; to abandon.
@@ -22,14 +26,13 @@ cells_of (Step cells rows) = cells
 cells_of Close = 0
 cells_of Abandon = 0
 
--- how many cells the entries of a list ask for
-abbrev pub cells_in : List Entry → ℕ
-cells_in [] = 0
-cells_in (e ∷ entries) = cells_of e.attempt + cells_in entries
-
 -- the attempt of an entry
 abbrev pub attempt_of : Entry → Attempt
 attempt_of e = e.attempt
+
+-- how many cells the entries of a list ask for
+abbrev pub cells_in : List Entry → ℕ
+cells_in entries = sum_by cells_of (map attempt_of entries)
 
 abbrev pub event_of : {V : Type 0} → Attempt → Outcome → List V → List V → Event V
 event_of (Open rows phase) outcome handed back = opened rows phase outcome
@@ -47,9 +50,8 @@ events_of (e ∷ entries) before after =
 
 -- x for an accepted attempt, and nothing for any other
 abbrev pub if_accepted : {A : Type 0} → Outcome → A → A → A
-if_accepted Accepted x nothing = x
-if_accepted NotMade x nothing = nothing
-if_accepted (Refused f) x nothing = nothing
+if_accepted (Ok _) x nothing = x
+if_accepted (Err _) x nothing = nothing
 
 -- what a run was opened for
 pub record Opening : Type 0 where
@@ -62,15 +64,10 @@ opening_of (stepped rows_of_set outcome handed back) = None
 opening_of (closed outcome) = None
 opening_of (abandoned outcome) = None
 
--- the first of two, or the second where that is none
-abbrev pub or_else : {A : Type 0} → Option A → Option A → Option A
-or_else None b = b
-or_else (Some x) b = Some x
-
 -- what the run was opened for, by the first opening that was accepted
 abbrev pub opening_in : {V : Type 0} → List (Event V) → Option Opening
 opening_in [] = None
-opening_in (e ∷ events) = or_else (opening_of e) (opening_in events)
+opening_in (e ∷ events) = option_or (opening_of e) (opening_in events)
 
 -- how many steps were accepted
 abbrev pub step_of : {V : Type 0} → Event V → ℕ
@@ -80,8 +77,7 @@ step_of (closed outcome) = 0
 step_of (abandoned outcome) = 0
 
 abbrev pub steps_in : {V : Type 0} → List (Event V) → ℕ
-steps_in [] = 0
-steps_in (e ∷ events) = step_of e + steps_in events
+steps_in events = sum_by step_of events
 
 -- how many accepted attempts ended the run
 abbrev pub end_of : {V : Type 0} → Event V → ℕ
@@ -91,8 +87,7 @@ end_of (closed outcome) = if_accepted outcome 1 0
 end_of (abandoned outcome) = if_accepted outcome 1 0
 
 abbrev pub ends_in : {V : Type 0} → List (Event V) → ℕ
-ends_in [] = 0
-ends_in (e ∷ events) = end_of e + ends_in events
+ends_in events = sum_by end_of events
 
 -- what the run that is open after these events was opened for, or none where there is no open run
 abbrev pub open_after : {V : Type 0} → List (Event V) → Option Opening

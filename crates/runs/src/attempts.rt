@@ -1,15 +1,19 @@
 ghost use Rattle.std.specs.Prelude.{◌≡◌, ℕ, ◌+◌, ◌-◌, ◌<◌, ◌≤◌, [], ◌∷◌, map, length, drop};
+ghost use Rattle.runs.specs.declared.attempts.AttemptError.TheVariants.{Refused};
 ghost use Rattle.runs.specs.declared.attempts.Run.TheVariants.{Unopened, Open};
 ghost use Rattle.runs.specs.Events.{stepped, closed, cells_of, cells_in, attempt_of, event_of, events_of};
 ghost use Rattle.runs.specs.Attempts.{Leads, LeadsAside, EveryList};
+ghost use Rattle.runs.specs.Shown.{attempt_error_text};
 
 use crate::run::{ClosedRun, OpenRun, Unfinished};
 use patches::patch_set::PatchSet;
 use patches::refusal::Refusal;
 use patches::window::Window;
+use std::error::Error;
+use std::fmt;
 
 /// Something to try with a run.
-#[derive(Clone, Copy)]
+#[derive(Clone, Copy, PartialEq, Eq, Debug)]
 pub enum Attempt {
     /// Open it for so many rows, in a phase.
     Open { rows: u64, phase: u64 },
@@ -19,17 +23,41 @@ pub enum Attempt {
     Abandon,
 }
 
-/// What came of an attempt.
-#[derive(Clone, Copy)]
-pub enum Outcome {
+/// Why an attempt was not accepted.
+#[derive(Clone, Copy, PartialEq, Eq, Debug)]
+pub enum AttemptError {
     /// There was no run to try it with: none was open, or, for an opening, one had been opened already.
     NotMade,
-    Accepted,
+    /// The run refused.
     Refused(Refusal),
 }
 
+impl fmt::Display for AttemptError {
+    ghost output = { attempt_error_text };
+
+    fn fmt<W: fmt::Write>(&self, f: &mut fmt::Formatter<W>) -> fmt::Result {
+        match *self {
+            Self::NotMade => f.write_str("there is no open run"),
+            Self::Refused(refusal) => write!(f, "{refusal}"),
+        }
+    }
+}
+
+impl Error for AttemptError {}
+
+impl From<Refusal> for AttemptError {
+    ghost from_gives = { λ refusal r. r ≡ Refused refusal };
+
+    fn from(refusal: Refusal) -> AttemptError {
+        AttemptError::Refused(refusal)
+    }
+}
+
+/// What came of an attempt.
+pub type Outcome = Result<(), AttemptError>;
+
 /// An attempt, with room for its outcome.
-#[derive(Clone, Copy)]
+#[derive(Clone, Copy, PartialEq, Eq, Debug)]
 pub struct Entry {
     pub attempt: Attempt,
     pub outcome: Outcome,
@@ -44,12 +72,12 @@ pub enum Run {
 }
 
 impl Attempt {
-    // How many cells it asks for.
-    fn cells(self) -> usize
+    /// How many cells it asks for.
+    pub fn cells(self) -> usize
         ensures { result ≡ cells_of self }
     {
         match self {
-            Attempt::Step { cells, set_rows: _ } => cells,
+            Attempt::Step { cells, .. } => cells,
             _ => 0,
         }
     }
@@ -61,27 +89,24 @@ fn try_unopened<S: PatchSet>(set: &S, attempt: Attempt) -> (Run, Outcome)
 {
     match attempt {
         Attempt::Open { rows, phase } => match OpenRun::open(rows, phase) {
-            Ok(run) => (Run::Open(run), Outcome::Accepted),
-            Err(refusal) => (Run::Unopened, Outcome::Refused(refusal)),
+            Ok(run) => (Run::Open(run), Ok(())),
+            Err(refusal) => (Run::Unopened, Err(AttemptError::Refused(refusal))),
         },
-        _ => (Run::Unopened, Outcome::NotMade),
+        _ => (Run::Unopened, Err(AttemptError::NotMade)),
     }
 }
 
 // Hands an open run some cells, with the first so many rows of the set.
 fn try_step<S: PatchSet>(
-    mut run: OpenRun,
+    run: &mut OpenRun,
     set: &S,
     set_rows: u64,
     cells: &mut [S::Value],
-) -> (Run, Outcome)
-    ensures { Leads (S.PatchSet.meaning set.now) (Open run) (stepped set_rows result.1 cells.old cells.new ∷ []) result.0 }
+) -> Outcome
+    ensures { Leads (S.PatchSet.meaning set.now) (Open run.old) (stepped set_rows result cells.old cells.new ∷ []) (Open run.new) }
 {
     let part = Window::new(set, 0, set_rows);
-    match run.step(&part, cells) {
-        Ok(()) => (Run::Open(run), Outcome::Accepted),
-        Err(refusal) => (Run::Open(run), Outcome::Refused(refusal)),
-    }
+    run.step(&part, cells).map_err(AttemptError::from)
 }
 
 // Tries to close an open run; the set is the one that the run is for.
@@ -89,17 +114,14 @@ fn try_close<S: PatchSet>(run: OpenRun, set: &S) -> (Run, Outcome)
     ensures { Leads (S.PatchSet.meaning set.now) (Open run) (closed result.1 ∷ []) result.0 }
 {
     match run.close() {
-        Ok(closed) => (Run::Closed(closed), Outcome::Accepted),
-        Err(back) => {
-            let Unfinished { run, refusal } = back;
-            (Run::Open(run), Outcome::Refused(refusal))
-        }
+        Ok(closed) => (Run::Closed(closed), Ok(())),
+        Err(Unfinished { run, refusal }) => (Run::Open(run), Err(AttemptError::Refused(refusal))),
     }
 }
 
 // Makes an attempt with an open run.
 fn try_open<S: PatchSet>(
-    run: OpenRun,
+    mut run: OpenRun,
     set: &S,
     attempt: Attempt,
     cells: &mut [S::Value],
@@ -107,12 +129,15 @@ fn try_open<S: PatchSet>(
     ensures { Leads (S.PatchSet.meaning set.now) (Open run) (event_of attempt result.1 cells.old cells.new ∷ []) result.0 }
 {
     match attempt {
-        Attempt::Open { rows: _, phase: _ } => (Run::Open(run), Outcome::NotMade),
-        Attempt::Step { cells: _, set_rows } => try_step(run, set, set_rows, cells),
+        Attempt::Open { .. } => (Run::Open(run), Err(AttemptError::NotMade)),
+        Attempt::Step { set_rows, .. } => {
+            let outcome = try_step(&mut run, set, set_rows, cells);
+            (Run::Open(run), outcome)
+        }
         Attempt::Close => try_close(run, set),
         Attempt::Abandon => {
             run.abandon();
-            (Run::Abandoned, Outcome::Accepted)
+            (Run::Abandoned, Ok(()))
         }
     }
 }
@@ -132,8 +157,8 @@ impl Run {
         match self {
             Run::Unopened => try_unopened(set, attempt),
             Run::Open(run) => try_open(run, set, attempt, cells),
-            Run::Closed(closed) => (Run::Closed(closed), Outcome::NotMade),
-            Run::Abandoned => (Run::Abandoned, Outcome::NotMade),
+            Run::Closed(closed) => (Run::Closed(closed), Err(AttemptError::NotMade)),
+            Run::Abandoned => (Run::Abandoned, Err(AttemptError::NotMade)),
         }
     }
 
@@ -154,15 +179,11 @@ impl Run {
         ensures every_list { EveryList (S.PatchSet.meaning set.now) self (events_of entries.new cells.old cells.new) result }
     {
         let mut run = self;
+        // where the next cells begin: they stay one slice, of which it is then known what it holds at the end
         let mut at = 0;
-        for i in 0..entries.len() {
-            let attempt = entries[i].attempt;
-            let wanted = attempt.cells();
-            let left = cells.len() - at;
-            let n = if wanted < left { wanted } else { left };
-            let (next, outcome) = run.make(set, attempt, &mut cells[at..at + n]);
-            run = next;
-            entries[i].outcome = outcome;
+        for entry in entries.iter_mut() {
+            let n = entry.attempt.cells().min(cells.len() - at);
+            (run, entry.outcome) = run.make(set, entry.attempt, &mut cells[at..at + n]);
             at += n;
         }
         run

@@ -1,7 +1,11 @@
 -- How listed numbers compare with a needle.
-use Rattle.std.proofs.Common.{◌≡◌, ℕ, zero, suc, ◌+◌, ◌<◌, ◌≤◌, map, Some, None, Ordering, sym, refl, ap, ◌∙◌, arith}
+use Rattle.std.proofs.Common.{◌≡◌, ℕ, zero, suc, ◌+◌, ◌<◌, ◌≤◌, map, Some, None, sym, refl, ap, ◌∙◌, inl, inr, arith}
 use Rattle.std.specs.List.{range_with_len}
 use Rattle.std.specs.Ordering.{nat_cmp}
+use Rattle.std.specs.Option.{option_map}
+use Rattle.std.specs.Prelude.{nat_lt}
+use Rattle.std.proofs.lemmas.Bool.{cases_lt, lt-ltb, le-ltb, cond-true, cond-false}
+use Rattle.search_sorted.specs.Numbers.{got}
 use Rattle.search_sorted.specs.Order.{compare_at}
 use Rattle.search_sorted.specs.Naturals.{natural}
 use Rattle.search_sorted.specs.Packed.{listed}
@@ -24,6 +28,10 @@ compare_listed f n i x h = let e : 0 + i ≡ i = omega arith in compare_from f 0
 pub past_listed : (f : ℕ → ℕ) (n i x : ℕ) → n ≤ i → compare_at natural (listed f n) i x ≡ None
 past_listed f n i x h = past_from f 0 n i x h
 
--- how the number at a place ranks beside the needle is how they compare
-pub ranked_listed : (f : ℕ → ℕ) (n i x y : ℕ) (r : Ordering) → i < n → y ≡ f i → r ≡ nat_cmp y x → Some r ≡ compare_at natural (listed f n) i x
-ranked_listed f n i x y r h e ranked = sym (compare_listed f n i x h ∙ ap Some (ap (λ k. nat_cmp k x) (sym e) ∙ sym ranked))
+-- the number that stands at a place, or none, compares as the listed one
+pub compared_got : (f : ℕ → ℕ) (n i x : ℕ) → option_map (λ y. nat_cmp y x) (got f n i) ≡ compare_at natural (listed f n) i x
+compared_got f n i x =
+    elim (cases_lt i n) [
+      | inl lt ↦ ap (option_map (λ y. nat_cmp y x)) (cond-true (nat_lt i n) (Some (f i)) None (lt-ltb i n lt)) ∙ sym (compare_listed f n i x lt)
+      | inr ge ↦ ap (option_map (λ y. nat_cmp y x)) (cond-false (nat_lt i n) (Some (f i)) None (le-ltb i n ge)) ∙ sym (past_listed f n i x ge)
+    ]

@@ -1,6 +1,7 @@
 -- What a left search among rising numbers says of the numbers themselves, and back.
 use Rattle.std.proofs.Common.{◌≡◌, ℕ, ◌<◌, ◌≤◌, true, false, length, Some, Ordering, Less, Equal, Greater, sym, ap, ◌∙◌, inl, inr, arith}
 use Rattle.std.proofs.lemmas.Bool.{cases_lt, false≢true}
+use Rattle.std.proofs.lemmas.Map.Lookups.{exact_unsigned}
 use Rattle.std.specs.Cmp.{ranks}
 use Rattle.std.specs.Ordering.{is_lt, is_some_and, MatchOrdering, nat_cmp}
 use Rattle.search_sorted.specs.declared.search.SearchResult.{SearchResult}
@@ -61,13 +62,8 @@ module _ (f : ℕ → ℕ) (n x : ℕ) where
             ];
       }
 
-  equal_by : (y : ℕ) (r : Ordering) → MatchOrdering r (y < x) (y ≡ x) (x < y) → Some r ≡ Some Equal → y ≡ x
-  equal_by y Less h t = absurd (let z : ◌≡◌ {A = ℕ} 0 1 = cc in omega arith)
-  equal_by y Equal h t = h
-  equal_by y Greater h t = absurd (let z : ◌≡◌ {A = ℕ} 0 1 = cc in omega arith)
-
   pub equal_from : (k : ℕ) → k < n → EqualAt natural (listed f n) x k → f k ≡ x
-  equal_from k h e = equal_by (f k) (nat_cmp (f k) x) (ranks (f k) x) (sym (compare_listed f n k x h) ∙ e)
+  equal_from k h e = let same : Some (nat_cmp (f k) x) ≡ Some Equal = sym (compare_listed f n k x h) ∙ e in exact_unsigned (f k) x cc
 
   pub equal_to : (k : ℕ) → k < n → f k ≡ x → EqualAt natural (listed f n) x k
   equal_to k h e = compare_listed f n k x h ∙ ap Some (rank_is (f k) x Equal e)

@@ -4,7 +4,6 @@ pub mod Found
 pub mod Weights
 pub mod Places
 pub mod Parts
-pub mod Digits
 pub mod Compares
 pub mod Lefts
 pub mod RowMaskBits

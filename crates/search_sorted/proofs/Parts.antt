@@ -1,5 +1,5 @@
 -- A part of packed numbers.
-use Rattle.std.proofs.Common.{◌≡◌, ℕ, ◌+◌, ◌-◌, ◌/◌, ◌<◌, ◌≤◌, min, length, sym, ap, ◌∙◌, subst, arith}
+use Rattle.std.proofs.Common.{◌≡◌, ℕ, ◌+◌, ◌-◌, ◌/◌, ◌<◌, ◌≤◌, min, length, ap, ◌∙◌, arith}
 use Rattle.search_sorted.specs.declared.width.Width.{Width}
 use Rattle.search_sorted.specs.declared.width.Width.TheVariants.{One, Two, Four, Eight}
 use Rattle.search_sorted.specs.declared.packed.Packed.{Packed}
@@ -27,10 +27,3 @@ part_of p q w lo hi from to is wide bytes top low =
           let e : number q i ≡ number p (lo + i) = rw (wide, bytes, ← is) (number_cut p.bytes.now w lo hi i here) in
           e ∙ ap (λ k. number p (k + i)) same;
     }
-
--- what holds at the size of a width, holds at the size of an equal one
-pub at_width : (P : ℕ → Type 0) (v w : Width) → v ≡ w → P (size w) → P (size v)
-at_width P v w e h = subst (λ x. P (size x)) (sym e) h
-
-pub from_width : (P : ℕ → Type 0) (v w : Width) → v ≡ w → P (size v) → P (size w)
-from_width P v w e h = subst (λ x. P (size x)) e h

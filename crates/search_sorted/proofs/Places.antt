@@ -1,13 +1,9 @@
 -- Where packed numbers lie among their bytes.
-use Rattle.std.proofs.Common.{◌≡◌, ℕ, zero, suc, ◌+◌, ◌-◌, ◌*◌, ◌/◌, ◌^◌, ◌<◌, ◌≤◌, List, length, get_or, take, drop, sym, refl, ap, ◌∙◌, ap₂, mul_comm, add-mul, mul-le-mul_left, le-div_iff_mul-le, mul-one, mul-add, div-mul-le_self, arith, length-drop, length-take, get_or-drop, get_or-take}
+use Rattle.std.proofs.Common.{◌≡◌, ℕ, ◌+◌, ◌-◌, ◌*◌, ◌/◌, ◌<◌, ◌≤◌, List, length, take, drop, sym, ap, ◌∙◌, inl, inr, mul_comm, mul-le-mul_left, mul-one, mul-add, div-mul-le_self, arith, length-drop, length-take, get_or-drop, get_or-take}
+use Rattle.std.proofs.lemmas.Bool.{cases_lt}
 use native.Mathlib.Nat.{mul-sub, mul-div_cancel_left}
-use Rattle.search_sorted.specs.Packed.{weighed, number_at}
-
--- the bytes of the number at a place are among the bytes
-pub room : (w place len : ℕ) → 0 < w → place < len / w → w * place + w ≤ len
-room w place len pos lt =
-    let all : (place + 1) * w ≤ len = (le-div_iff_mul-le pos).0 (omega arith) in
-    omega (arith, all, add-mul place 1 w, mul_comm place w)
+use Rattle.search_sorted.specs.Packed.{weighed, number_at, Ascending}
+use Rattle.search_sorted.proofs.Weights.{weighed_same}
 
 -- as many bytes as some of the whole numbers have
 pub some_bytes : (w n len : ℕ) → n ≤ len / w → w * n ≤ len
@@ -15,11 +11,9 @@ some_bytes w n len le = omega (arith, mul-le-mul_left w le, mul_comm w (len / w)
 
 -- the bytes of a part weigh what they weigh in the whole
 pub weighed_part : (bytes : List ℕ) (k m x w : ℕ) → x + w ≤ m → weighed (take m (drop k bytes)) x w ≡ weighed bytes (k + x) w
-weighed_part bytes k m x zero h = refl
-weighed_part bytes k m x (suc w) h =
-    let byte : get_or (take m (drop k bytes)) (x + w) 0 ≡ get_or bytes (k + x + w) 0 =
-    (let lt : x + w < m = omega arith in let e : k + (x + w) ≡ k + x + w = omega arith in rw (get_or-take, get_or-drop, e)) in
-    ap₂ (λ a b. a + b * 256 ^ w) (weighed_part bytes k m x w (omega arith)) byte
+weighed_part bytes k m x w h =
+    weighed_same (take m (drop k bytes)) bytes x (k + x) w
+    (λ i l. let e : k + (x + i) ≡ k + x + i = omega arith in let lt : x + i < m = omega arith in rw (get_or-take, get_or-drop, e))
 
 module _ (bytes : List ℕ) (w from to : ℕ) where
   -- the bytes of the numbers from one place up to another
@@ -37,3 +31,14 @@ module _ (bytes : List ℕ) (w from to : ℕ) where
       let all : w * to ≤ length bytes = some_bytes w to (length bytes) le in
       let long : length cut ≡ w * (to - from) = simp (length-take, length-drop) (omega (arith, mul-sub w to from)) in
       ap (λ n. n / w) long ∙ mul-div_cancel_left (to - from) pos
+
+-- numbers that rise up to a place rise on where the next one is above the last of them
+pub rises_on : (f : ℕ → ℕ) (place before : ℕ) → 0 < place → before ≡ f (place - 1) → Ascending f place → before < f place → Ascending f (place + 1)
+rises_on f place before some is up above i j lt within =
+    elim (cases_lt j place) [
+      | inl early ↦ up i j lt early
+      | inr late ↦ let e : j ≡ place = omega arith in rw e (elim (cases_lt i (place - 1)) [
+        | inl less ↦ omega (arith, up i (place - 1) less (omega arith), is)
+        | inr last ↦ let d : i ≡ place - 1 = omega arith in rw d (omega (arith, is))
+      ])
+    ]

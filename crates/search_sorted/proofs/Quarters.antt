@@ -2,7 +2,6 @@
 use Rattle.std.proofs.Common.{◌≡◌, ℕ, ◌+◌, ◌-◌, ◌*◌, ◌<◌, ◌≤◌, Bool, true, false, sym, ⊎_elim, arith}
 use mir.Val.{bool_byte}
 use Rattle.std.proofs.lemmas.Bool.{both_ways, cases_Bool, cases_lt}
-use Rattle.search_sorted.specs.Search.{PartitionPoint}
 
 -- the test holds before every place where it holds
 abbrev pub Falling : (ℕ → Bool) → Type 0
@@ -81,19 +80,3 @@ module _ (test : ℕ → Bool) (falling : Falling test) where
             (λ (q : n ≤ k). let same : k ≡ n = omega arith in rw same (sym is))
             (cases_lt k n);
       })
-
-  -- the partition point is as many places on as pass
-  pub counted_all : (len base size all count : ℕ) → all ≡ size → Narrowed test len base size → Counted test base all count → PartitionPoint test len (base + count)
-  counted_all len base size all count e n c = record {
-    within = omega (arith, c.few, n.within);
-    before = λ k h.
-        ⊎_elim
-        (λ (q : k < base). n.before k q)
-        (λ (q : base ≤ k). let back : base + (k - base) ≡ k = omega arith in rw back at (c.passed (k - base) (omega arith)))
-        (cases_lt k base);
-    after = λ k h l.
-        ⊎_elim
-        (λ (q : k < base + size). let back : base + (k - base) ≡ k = omega arith in rw back at (c.failed (k - base) (omega arith) (omega arith)))
-        (λ (q : base + size ≤ k). n.after k q l)
-        (cases_lt k (base + size));
-  }

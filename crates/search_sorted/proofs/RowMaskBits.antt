@@ -1,10 +1,10 @@
 -- Counts of set rows by the ones of a byte.
-use Rattle.std.proofs.Common.{◌≡◌, ℕ, zero, suc, ◌+◌, ◌-◌, ◌*◌, ◌/◌, ◌%◌, ◌^◌, ◌<◌, ◌≤◌, Bool, ◌&&◌, eqb, ltb, List, get_or, sym, refl, ap, ◌∙◌, ap₂, arith}
+use Rattle.std.proofs.Common.{◌≡◌, ℕ, zero, suc, ◌+◌, ◌-◌, ◌*◌, ◌/◌, ◌%◌, ◌^◌, ◌<◌, ◌≤◌, sum_by, List, length, take, get_or, Fits, w8, sym, refl, ap, ◌∙◌, ap₂, arith}
 use lib.Bits.{bit_and}
 use lib.Count.{ones, ones_in, ones_cat}
 use Rattle.std.proofs.lemmas.Nat.{pow_pos, mod-pow-add, mod_below, and_mask, one_shl}
-use Rattle.std.proofs.lemmas.Bool.{lt-ltb}
-use Rattle.search_sorted.specs.RowMasks.{bit, is_set, set_below}
+use Rattle.std.proofs.lemmas.List.Sums.{sum_by_more}
+use Rattle.search_sorted.specs.RowMasks.{bit, set_below}
 
 ones_digit : (y : ℕ) → y < 2 → ones y ≡ y
 unfolding ones ones_in
@@ -51,6 +51,14 @@ below_byte bytes q b e h =
     let d : 8 * q + 8 ≡ 8 * (q + 1) = omega arith in
     ap (λ x. set_below bytes (8 * q) + ones x) (sym w) ∙ below_in bytes q 8 (omega arith) ∙ ap (set_below bytes) d
 
+-- the ones of the first n bytes
+pub ones_below : (bytes : List ℕ) (n : ℕ) → n ≤ length bytes → ((i : ℕ) → Fits w8 (get_or bytes i 0)) → sum_by ones (take n bytes) ≡ set_below bytes (8 * n)
+ones_below bytes zero h small = refl
+ones_below bytes (suc n) h small =
+    let e : suc n ≡ n + 1 = omega arith in
+    let more : sum_by ones (take (n + 1) bytes) ≡ sum_by ones (take n bytes) + ones (get_or bytes n 0) = sum_by_more ones bytes n 0 (omega arith) in
+    rw e (omega (arith, more, ones_below bytes n (omega arith) small, below_byte bytes n (get_or bytes n 0) refl (small n).fits))
+
 -- the rows before a row in its byte, by a mask of the bits below its own
 pub below_masked : (bytes : List ℕ) (row b : ℕ) → b ≡ get_or bytes (row / 8) 0
     → set_below bytes (8 * (row / 8)) + ones (bit_and b ((1 * 2 ^ (row % 8)) % 256 - 1)) ≡ set_below bytes row
@@ -61,10 +69,3 @@ below_masked bytes row b e =
     ∙ ap (λ x. set_below bytes (8 * (row / 8)) + ones x) (and_mask b k ∙ ap (λ x. x % 2 ^ k) e)
     ∙ below_in bytes (row / 8) k (omega arith)
     ∙ ap (set_below bytes) d
-
--- the test of a row's bit
-pub set_test : (bytes : List ℕ) (rows row b : ℕ) → b ≡ get_or bytes (row / 8) 0 → row < rows
-    → eqb (bit_and (b / 2 ^ (row % 8)) 1) 1 ≡ (ltb row rows && is_set bytes row)
-set_test bytes rows row b e h =
-    ap (λ x. eqb x 1) (and_mask (b / 2 ^ (row % 8)) 1 ∙ ap (λ x. x / 2 ^ (row % 8) % 2) e)
-    ∙ ap (λ (t : Bool). t && is_set bytes row) (sym (lt-ltb row rows h))

@@ -1,6 +1,8 @@
 -- How the set row at a place compares with a row, by the set rows before that.
-use Rattle.std.proofs.Common.{◌≡◌, ℕ, ◌<◌, ◌≤◌, min, Bool, true, false, ◌&&◌, ltb, List, length, get_or, Some, None, Ordering, Less, Equal, Greater, sym, ap, ◌∙◌, inl, inr, arith}
+use Rattle.std.proofs.Common.{◌≡◌, ℕ, ◌<◌, ◌≤◌, min, Bool, true, false, ◌&&◌, ltb, List, length, get_or, Some, None, Ordering, Less, Equal, Greater, refl, sym, ap, ◌∙◌, inl, inr, arith}
 use Rattle.std.proofs.lemmas.Bool.{ltb-true, eqb-true, lt-ltb, eq-eqb, and_parts, and_from, both_ways, cases_lt}
+use Rattle.std.specs.Cmp.{ranks}
+use Rattle.std.specs.Ordering.{MatchOrdering, nat_cmp}
 use Rattle.search_sorted.specs.Order.{compare_at}
 use Rattle.search_sorted.specs.Naturals.{natural, rank_is}
 use Rattle.search_sorted.specs.RowMasks.{bit, is_set, set_below, set_rows_of}
@@ -23,7 +25,7 @@ module _ (bytes : List ℕ) (rows place needle total : ℕ) (all : total ≡ set
         compare_within natural (set_rows_of bytes rows) place needle 0 l ∙ ap Some e
 
     module _ (before : ℕ) (front : before ≡ set_below bytes (min needle rows)) where
-      pub row_less : place < before → compare_at natural (set_rows_of bytes rows) place needle ≡ Some Less
+      row_less : place < before → compare_at natural (set_rows_of bytes rows) place needle ≡ Some Less
       row_less h =
           let x = get_or (set_rows_of bytes rows) place 0 in
           let l : set_below bytes x < set_below bytes (min needle rows) = omega (arith, found.before) in
@@ -69,8 +71,17 @@ module _ (bytes : List ℕ) (rows place needle total : ℕ) (all : total ≡ set
           let one : bit bytes needle ≡ 1 = ap (bit bytes) (sym e) ∙ found.set in
           and_from (ltb needle rows) (is_set bytes needle) (lt-ltb needle rows lt) (eq-eqb (bit bytes needle) 1 one)
 
-      pub row_greater : before < place → compare_at natural (set_rows_of bytes rows) place needle ≡ Some Greater
+      row_greater : before < place → compare_at natural (set_rows_of bytes rows) place needle ≡ Some Greater
       row_greater h = above (omega arith) (λ e. omega (arith, counted e))
+
+      by_rank : (r : Ordering) → MatchOrdering r (place < before) (place ≡ before) (before < place) → (r ≡ Equal → ⊥) → compare_at natural (set_rows_of bytes rows) place needle ≡ Some r
+      by_rank Less h other = row_less h
+      by_rank Equal h other = absurd (other refl)
+      by_rank Greater h other = row_greater h
+
+      -- where the place is another than the number of those, it ranks beside it as its row beside the needle
+      pub row_ranked : (r : Ordering) → r ≡ nat_cmp place before → (r ≡ Equal → ⊥) → compare_at natural (set_rows_of bytes rows) place needle ≡ Some r
+      row_ranked r e other = by_rank r (rw e (ranks place before)) other
 
       pub row_unset : before ≤ place → (has : Bool) → has ≡ (ltb needle rows && is_set bytes needle) → has ≡ false
           → compare_at natural (set_rows_of bytes rows) place needle ≡ Some Greater

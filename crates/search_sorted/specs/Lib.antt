@@ -3,9 +3,10 @@ pub mod Search
 pub mod Shown
 pub mod Naturals
 pub mod Packed
+pub mod Widths
 pub mod Listed
 pub mod Numbers
-pub mod Loads
+pub mod Risings
 pub mod Writes
 pub mod RowMasks
 pub mod RowMaskLaws

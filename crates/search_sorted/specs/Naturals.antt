@@ -2,15 +2,15 @@
 use Rattle.std.specs.Prelude.{◌≡◌, ℕ, ◌<◌, ◌≤◌, true, refl}
 use Rattle.std.specs.declared.cmp.Ordering.TheVariants.{Less, Equal, Greater}
 use Rattle.std.specs.declared.cmp.Ordering.{Ordering}
-use Rattle.std.proofs.Common.{arith}
+use Rattle.std.proofs.Common.{sym, arith}
 use Rattle.std.proofs.lemmas.Bool.{false≢true}
-use Rattle.std.specs.Cmp.{ranks, nat_cmp_total, one_rank, below_irrefl, below_chain}
+use Rattle.std.specs.Cmp.{ranks, nat_cmp_total, nat_cmp_is}
 use Rattle.std.specs.Ordering.{is_le, MatchOrdering, nat_cmp}
 use Rattle.search_sorted.specs.Order.{TotalOrder}
 
 -- what ranks two numbers as their order does is their rank
 pub rank_is : (x y : ℕ) (r : Ordering) → MatchOrdering r (x < y) (x ≡ y) (y < x) → nat_cmp x y ≡ r
-rank_is x y r h = one_rank (λ (x y : ℕ). x < y) below_irrefl below_chain x y (nat_cmp x y) r (ranks x y) h
+rank_is x y r h = sym (nat_cmp_is x y r h)
 
 le_by : (x y : ℕ) (r : Ordering) → MatchOrdering r (x < y) (x ≡ y) (y < x) → is_le r ≡ true → x ≤ y
 le_by x y Less h t = omega arith

@@ -1,5 +1,6 @@
 #![tactic(auto)]
 
+mod fixed;
 mod keys;
 pub mod order;
 pub mod packed;
@@ -11,8 +12,8 @@ pub mod writes;
 
 pub use order::IndexOrd;
 pub use packed::Packed;
-pub use rising::Rising;
+pub use rising::{NotRising, Rising};
 pub use row_mask::{RowMask, SetRows};
 pub use search::{SearchResult, SearchSortedSide, search_sorted};
-pub use width::Width;
-pub use writes::write_number;
+pub use width::{UnknownWidth, Width};
+pub use writes::{NoRoom, write_number};

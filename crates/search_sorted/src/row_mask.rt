@@ -1,4 +1,5 @@
-ghost use Rattle.std.specs.Prelude.{◌≡◌, ◌+◌, ◌*◌, ◌/◌, ◌^◌, ◌<◌, ◌≤◌, min, ◌&&◌, length, is_some, IfSome, ◌==◌, nat_lt, slice_index};
+ghost use Rattle.std.specs.Prelude.{◌≡◌, ◌+◌, ◌*◌, ◌/◌, ◌^◌, ◌<◌, ◌≤◌, min, ◌&&◌, length, is_some, IfSome, ◌==◌, nat_lt, slice_index, sum_by};
+ghost use lib.Count.{ones};
 ghost use Rattle.search_sorted.specs.Naturals.{natural};
 ghost use Rattle.search_sorted.specs.RowMasks.{is_set, set_below, set_rows_of, bytes_for};
 ghost use Rattle.search_sorted.specs.RowMaskLaws.{rows_rise};
@@ -12,6 +13,7 @@ use std::cmp::Ordering;
 pub struct RowMask<'a> {
     rows: u64,
     bytes: &'a [u8],
+    ghost sized: { length bytes.now ≡ bytes_for rows },
 }
 
 impl<'a> RowMask<'a> {
@@ -46,15 +48,14 @@ impl<'a> RowMask<'a> {
     pub fn rank(&self, row: u64) -> u64
         ensures { result ≡ set_below self.now.bytes.now (min row self.now.rows) }
     {
-        let end = if row < self.rows { row } else { self.rows };
-        count_between(self.bytes, 0, end)
+        count_below(self.bytes, row.min(self.rows))
     }
 
     /// How many rows are set.
     pub fn true_count(&self) -> u64
         ensures { result ≡ set_below self.now.bytes.now self.now.rows }
     {
-        count_between(self.bytes, 0, self.rows)
+        count_below(self.bytes, self.rows)
     }
 
     /// The set rows, as an ordered sequence.
@@ -92,35 +93,29 @@ impl<'a> IndexOrd for SetRows<'a> {
             return None;
         }
         let before = self.mask.rank(*needle);
-        if place < before {
-            Some(Ordering::Less)
-        } else if place == before && self.mask.contains(*needle) {
-            Some(Ordering::Equal)
-        } else {
-            Some(Ordering::Greater)
-        }
+        Some(match place.cmp(&before) {
+            Ordering::Equal if self.mask.contains(*needle) => Ordering::Equal,
+            Ordering::Equal => Ordering::Greater,
+            order => order,
+        })
     }
 }
 
-// How many rows from `a` up to `b` are set.
-fn count_between(bytes: &[u8], a: u64, b: u64) -> u64
-    requires { a ≤ b }
-    ensures { set_below bytes.now a + result ≡ set_below bytes.now b }
+// How many rows before `row` are set: those of whole bytes, and those of a part of one.
+fn count_below(bytes: &[u8], row: u64) -> u64
+    requires { row / 8 ≤ length bytes.now }
+    ensures { result ≡ set_below bytes.now row }
 {
-    count_in_bytes(bytes, a / 8, b / 8) + count_in_byte(bytes, b) - count_in_byte(bytes, a)
+    let whole = (row / 8) as usize;
+    count_ones(&bytes[..whole]) + count_in_byte(bytes, row)
 }
 
-// How many rows are set in the bytes from `from` up to `to`.
-fn count_in_bytes(bytes: &[u8], from: u64, to: u64) -> u64
-    requires order { from ≤ to }
-    requires fits { to < 2 ^ 61 }
-    ensures { set_below bytes.now (8 * from) + result ≡ set_below bytes.now (8 * to) }
+// How many bits of the bytes are 1.
+fn count_ones(bytes: &[u8]) -> u64
+    requires { sum_by ones bytes.now < 2 ^ 64 }
+    ensures { result ≡ sum_by ones bytes.now }
 {
-    let mut count = 0;
-    for i in from..to {
-        count += byte_at(bytes, i).count_ones() as u64;
-    }
-    count
+    bytes.iter().map(|byte| u64::from(byte.count_ones())).sum()
 }
 
 // How many rows before `row` are set in the byte that has the bit of `row`.
@@ -128,16 +123,12 @@ fn count_in_byte(bytes: &[u8], row: u64) -> u64
     ensures { set_below bytes.now (8 * (row / 8)) + result ≡ set_below bytes.now row }
 {
     let below = (1 << (row % 8)) - 1;
-    (byte_at(bytes, row / 8) & below).count_ones() as u64
+    u64::from((byte_at(bytes, row / 8) & below).count_ones())
 }
 
 // The byte at a place, and 0 past the last byte: no row is set there.
 fn byte_at(bytes: &[u8], place: u64) -> u8
     ensures { result ≡ slice_index bytes.now place }
 {
-    if place < bytes.len() as u64 {
-        bytes[place as usize]
-    } else {
-        0
-    }
+    bytes.get(place as usize).copied().unwrap_or(0)
 }

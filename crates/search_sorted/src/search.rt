@@ -41,8 +41,7 @@ impl SearchResult {
         ensures { result ≡ place_of self }
     {
         match self {
-            SearchResult::Found(place) => place,
-            SearchResult::NotFound(place) => place,
+            SearchResult::Found(place) | SearchResult::NotFound(place) => place,
         }
     }
 }
@@ -110,6 +109,7 @@ fn partition_place<S: IndexOrd>(sequence: &S, needle: &S::Key, side: SearchSorte
         place += quarter * (first as usize + second as usize + third as usize);
         left -= 3 * quarter;
     }
+    // A `filter` and `count` would need a contract on the closure, and is then longer than this loop.
     let mut count = 0;
     for k in 0..left {
         count += goes_before(sequence, place + k, needle, side) as usize;
@@ -126,21 +126,17 @@ fn goes_before<S: IndexOrd>(
 ) -> bool
     ensures { result ≡ side_test S.IndexOrd.order (S.IndexOrd.keys sequence.now) needle.now side place }
 {
-    match sequence.index_cmp(place, needle) {
-        Some(order) => match side {
+    sequence
+        .index_cmp(place, needle)
+        .is_some_and(|order| match side {
             SearchSortedSide::Left => order.is_lt(),
             SearchSortedSide::Right => order.is_le(),
-        },
-        None => false,
-    }
+        })
 }
 
 // Whether the key at a place equals the needle; none does past the end.
 fn is_equal<S: IndexOrd>(sequence: &S, place: usize, needle: &S::Key) -> bool
     ensures { Decides result (EqualAt S.IndexOrd.order (S.IndexOrd.keys sequence.now) needle.now place) }
 {
-    match sequence.index_cmp(place, needle) {
-        Some(Ordering::Equal) => true,
-        _ => false,
-    }
+    sequence.index_cmp(place, needle) == Some(Ordering::Equal)
 }

@@ -1,17 +1,32 @@
+ghost use Rattle.std.specs.Prelude.{Some};
 ghost use Rattle.search_sorted.specs.Writes.{Writes};
+ghost use Rattle.search_sorted.specs.Shown.{no_room_text};
 
-/// Writes a number of eight bytes at a place, and says whether there was room; without room nothing is written.
-pub fn write_number(out: &mut [u8], place: usize, number: u64) -> bool
+use std::error::Error;
+use std::fmt;
+
+/// There is no room for a number at the place.
+#[derive(Clone, Copy, PartialEq, Eq, Debug)]
+pub struct NoRoom;
+
+impl fmt::Display for NoRoom {
+    ghost output = { λ _. Some no_room_text };
+
+    fn fmt<W: fmt::Write>(&self, f: &mut fmt::Formatter<W>) -> fmt::Result {
+        f.write_str("no room for the number")
+    }
+}
+
+impl Error for NoRoom {}
+
+/// Writes a number of eight bytes at a place. Without room nothing is written.
+pub fn write_number(out: &mut [u8], place: usize, number: u64) -> Result<(), NoRoom>
     ensures { Writes out.old out.new place number result }
 {
     if place >= out.len() / 8 {
-        return false;
+        return Err(NoRoom);
     }
     let from = 8 * place;
-    let mut left = number;
-    for k in 0..8 {
-        out[from + k] = (left % 256) as u8;
-        left /= 256;
-    }
-    true
+    out[from..from + 8].copy_from_slice(&number.to_le_bytes());
+    Ok(())
 }

@@ -36,7 +36,7 @@ impl Cell for i64 {
     }
 
     fn number(&self) -> u64 {
-        u64::from_le_bytes(self.to_le_bytes())
+        self.cast_unsigned()
     }
 }
 
@@ -50,7 +50,7 @@ impl Cell for Mark {
     }
 
     fn number(&self) -> u64 {
-        let amount = u64::from_le_bytes(self.amount.to_le_bytes());
+        let amount = self.amount.cast_unsigned();
         let day = u64::from(self.day).wrapping_mul(31);
         let source = u64::from(self.source).wrapping_mul(1009);
         amount.wrapping_add(day).wrapping_add(source)
@@ -59,45 +59,30 @@ impl Cell for Mark {
 
 /// A buffer of so many blank cells.
 pub fn buffer<T: Cell>(heap: Global, n: u64) -> Result<Vec<T>, AllocError> {
-    let mut cells = Vec::new(heap);
-    for place in 0..n {
-        cells.push(T::blank(place))?;
-    }
-    Ok(cells)
+    (0..n).map(|place| T::blank(place)).collect(heap)
 }
 
-/// What a buffer holds: a sum of its first cells in which each place counts, and how many of the others are still blank.
-#[derive(Clone, Copy)]
-pub struct Tally {
-    pub sum: u64,
-    pub blank: u64,
-}
-
-/// Counts up a buffer of which the first so many cells were written.
-pub fn count_up<T: Cell>(cells: &[T], written: u64) -> Tally {
+/// A sum of cells in which each place counts.
+pub fn checksum<T: Cell>(cells: &[T]) -> u64 {
     let mut sum: u64 = 0;
-    let mut blank: u64 = 0;
-    let mut place: u64 = 0;
-    for cell in cells {
-        let number = cell.number();
-        if place >= written {
-            if number == T::blank(place).number() {
-                blank = blank.wrapping_add(1);
-            }
-        } else {
-            let part = place.wrapping_add(1).wrapping_mul(number) % 1000003;
-            sum = sum.wrapping_add(part) % 1000003;
-        }
-        place = place.wrapping_add(1);
+    for (place, cell) in cells.iter().enumerate() {
+        let part = (place as u64).wrapping_add(1).wrapping_mul(cell.number()) % 1000003;
+        sum = sum.wrapping_add(part) % 1000003;
     }
-    Tally { sum, blank }
+    sum
+}
+
+/// How many cells from a place on hold what they held at first.
+pub fn blank_from<T: Cell>(cells: &[T], first: usize) -> u64 {
+    cells
+        .iter()
+        .enumerate()
+        .skip(first)
+        .filter(|(place, cell)| cell.number() == T::blank(*place as u64).number())
+        .count() as u64
 }
 
 /// The first so many cells, or all where there are no more.
 pub fn front<T>(cells: &[T], n: usize) -> &[T] {
-    if n <= cells.len() {
-        &cells[0..n]
-    } else {
-        cells
-    }
+    cells.get(..n).unwrap_or(cells)
 }

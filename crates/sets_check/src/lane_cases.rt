@@ -1,5 +1,5 @@
 use crate::agreement::agreeing;
-use crate::cells::{buffer, count_up, front};
+use crate::cells::{blank_from, buffer, checksum, front};
 use crate::shown;
 use foreign::every::Every;
 use foreign::mark::Mark;
@@ -24,31 +24,33 @@ fn show_written(
     entries: &[u16],
     values: &[Mark],
 ) -> anyhow::Result<()> {
-    let offset_count = sizes.offsets as u64;
-    let count = sizes.entries as u64;
-    let o = count_up(offsets, offset_count);
-    let e = count_up(entries, count);
-    let v = count_up(values, count);
+    let TableSizes {
+        offsets: ends,
+        entries: count,
+    } = sizes;
     shown::line(
         rt,
         "  wrote",
         &[
-            offset_count,
-            count,
-            o.sum,
-            e.sum,
-            v.sum,
-            o.blank,
-            e.blank,
-            v.blank,
+            ends as u64,
+            count as u64,
+            checksum(front(offsets, ends)),
+            checksum(front(entries, count)),
+            checksum(front(values, count)),
+            blank_from(offsets, ends),
+            blank_from(entries, count),
+            blank_from(values, count),
         ],
     )
 }
 
 // Loads tables, and compares them with the set that they were written from.
 fn show_loaded(rt: &HostRuntime, set: &Every, tables: &LaneTables<Mark>) -> anyhow::Result<()> {
-    let mut loaded = Lanes::empty();
-    shown::outcome(rt, "  load", loaded.load(tables))?;
+    let loaded = match Lanes::load(tables) {
+        Ok(loaded) => loaded,
+        Err(refusal) => return shown::outcome(rt, "  load", Err(refusal)),
+    };
+    shown::outcome(rt, "  load", Ok(()))?;
     let patches = loaded.num_patches() as u64;
     let same = agreeing(set, &loaded);
     shown::line(
@@ -67,29 +69,17 @@ fn lane_case(rt: &HostRuntime, set: &Every, lanes: u64) -> anyhow::Result<()> {
     let mut offsets = buffer(heap, lane_total.wrapping_add(4))?;
     let mut entries = buffer(heap, count.wrapping_add(2))?;
     let mut values = buffer(heap, count.wrapping_add(5))?;
-    let written = transpose(
-        set,
-        lanes,
-        offsets.as_mut_slice(),
-        entries.as_mut_slice(),
-        values.as_mut_slice(),
-    );
+    let written = transpose(set, lanes, &mut offsets, &mut entries, &mut values);
     let Ok(sizes) = written else {
         return shown::line(rt, "  refused", &[]);
     };
-    show_written(
-        rt,
-        sizes,
-        offsets.as_slice(),
-        entries.as_slice(),
-        values.as_slice(),
-    )?;
+    show_written(rt, sizes, &offsets, &entries, &values)?;
     let tables = LaneTables {
         rows,
         lanes,
-        offsets: front(offsets.as_slice(), sizes.offsets),
-        entries: front(entries.as_slice(), sizes.entries),
-        values: front(values.as_slice(), sizes.entries),
+        offsets: front(&offsets, sizes.offsets),
+        entries: front(&entries, sizes.entries),
+        values: front(&values, sizes.entries),
     };
     show_loaded(rt, set, &tables)
 }

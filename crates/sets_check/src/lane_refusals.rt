@@ -1,20 +1,9 @@
-use crate::cells::{buffer, count_up};
+use crate::cells::{blank_from, buffer};
 use crate::shown;
 use foreign::every::Every;
 use lanes::lanes::{LaneTables, Lanes};
 use lanes::transpose::transpose;
 use patches::patch_set::PatchSet;
-
-// Tables, and what is wrong with them.
-#[derive(Clone, Copy)]
-struct LoadCase {
-    name: &'static str,
-    rows: u64,
-    lanes: u64,
-    offsets: &'static [u32],
-    entries: &'static [u16],
-    values: &'static [i64],
-}
 
 const OFFSETS: [u32; 5] = [0, 2, 3, 4, 5];
 
@@ -23,9 +12,8 @@ const ENTRIES: [u16; 5] = [2, 6, 5, 4, 975];
 const VALUES: [i64; 5] = [7, 9, 8, 10, 11];
 
 // Sound tables: rows 2 and 6, 5, 1028 and 1999 of 2000, in two lanes.
-fn sound(name: &'static str) -> LoadCase {
-    LoadCase {
-        name,
+fn sound() -> LaneTables<'static, i64> {
+    LaneTables {
         rows: 2000,
         lanes: 2,
         offsets: &OFFSETS,
@@ -34,22 +22,19 @@ fn sound(name: &'static str) -> LoadCase {
     }
 }
 
-fn tables(case: &LoadCase) -> LaneTables<'static, i64> {
-    LaneTables {
-        rows: case.rows,
-        lanes: case.lanes,
-        offsets: case.offsets,
-        entries: case.entries,
-        values: case.values,
-    }
-}
-
-// Loads sound tables, then those of the case, and says what the lanes hold.
-fn load_case(rt: &HostRuntime, case: &LoadCase) -> anyhow::Result<()> {
-    let mut lanes = Lanes::empty();
-    let _ = lanes.load(&tables(&sound("sound")));
-    let result = lanes.load(&tables(case));
-    shown::outcome(rt, case.name, result)?;
+// Loads these tables, of which the name says what is wrong, and says what the lanes hold: where they are refused, sound
+// tables are still there.
+fn load_case(
+    rt: &HostRuntime,
+    name: &str,
+    tables: &LaneTables<'static, i64>,
+) -> anyhow::Result<()> {
+    let sound = sound();
+    let (lanes, outcome) = match Lanes::load(tables) {
+        Ok(lanes) => (lanes, Ok(())),
+        Err(refusal) => (Lanes::load(&sound).unwrap_or(Lanes::empty()), Err(refusal)),
+    };
+    shown::outcome(rt, name, outcome)?;
     let rows = lanes.rows();
     let patches = lanes.num_patches();
     let last = lanes.find(1999);
@@ -71,10 +56,12 @@ fn shapes(rt: &HostRuntime) -> anyhow::Result<()> {
         ("three chunks", 2049, 2),
         ("two whole chunks", 2048, 2),
     ] {
-        let mut case = sound(name);
-        case.rows = rows;
-        case.lanes = lanes;
-        load_case(rt, &case)?;
+        let tables = LaneTables {
+            rows,
+            lanes,
+            ..sound()
+        };
+        load_case(rt, name, &tables)?;
     }
     Ok(())
 }
@@ -89,9 +76,8 @@ fn offset_tables(rt: &HostRuntime) -> anyhow::Result<()> {
         ("last offset", &[0, 2, 3, 4, 4]),
     ];
     for (name, offsets) in tables {
-        let mut case = sound(name);
-        case.offsets = offsets;
-        load_case(rt, &case)?;
+        let tables = LaneTables { offsets, ..sound() };
+        load_case(rt, name, &tables)?;
     }
     Ok(())
 }
@@ -107,9 +93,8 @@ fn entry_tables(rt: &HostRuntime) -> anyhow::Result<()> {
         ("last row of chunk 0", &[2, 6, 1023, 4, 975]),
     ];
     for (name, entries) in tables {
-        let mut case = sound(name);
-        case.entries = entries;
-        load_case(rt, &case)?;
+        let tables = LaneTables { entries, ..sound() };
+        load_case(rt, name, &tables)?;
     }
     Ok(())
 }
@@ -119,18 +104,19 @@ pub fn loads(rt: &HostRuntime) -> anyhow::Result<()> {
     shapes(rt)?;
     offset_tables(rt)?;
     entry_tables(rt)?;
-    let mut few = sound("a value too few");
-    few.values = &[7, 9, 8, 10];
-    load_case(rt, &few)?;
-    let nothing = LoadCase {
-        name: "no rows",
+    let few = LaneTables {
+        values: &[7, 9, 8, 10],
+        ..sound()
+    };
+    load_case(rt, "a value too few", &few)?;
+    let nothing = LaneTables {
         rows: 0,
         lanes: 1024,
         offsets: &[0],
         entries: &[],
         values: &[],
     };
-    load_case(rt, &nothing)
+    load_case(rt, "no rows", &nothing)
 }
 
 // How long the outputs of a transposition are.
@@ -149,21 +135,17 @@ fn transpose_case(rt: &HostRuntime, set: &Every, room: Room) -> anyhow::Result<(
     let mut offsets = buffer(heap, room.offsets)?;
     let mut entries = buffer(heap, room.entries)?;
     let mut values = buffer(heap, room.values)?;
-    let result = match transpose(
-        set,
-        room.lanes,
-        offsets.as_mut_slice(),
-        entries.as_mut_slice(),
-        values.as_mut_slice(),
-    ) {
-        Ok(_) => Ok(()),
-        Err(refusal) => Err(refusal),
-    };
-    shown::outcome(rt, room.name, result)?;
-    let o = count_up(offsets.as_slice(), 0);
-    let e = count_up(entries.as_slice(), 0);
-    let v = count_up(values.as_slice(), 0);
-    shown::line(rt, "  blank", &[o.blank, e.blank, v.blank])
+    let result = transpose(set, room.lanes, &mut offsets, &mut entries, &mut values);
+    shown::outcome(rt, room.name, result.map(|_| ()))?;
+    shown::line(
+        rt,
+        "  blank",
+        &[
+            blank_from(&offsets, 0),
+            blank_from(&entries, 0),
+            blank_from(&values, 0),
+        ],
+    )
 }
 
 /// Transpositions of 286 patches in 2000 rows that are refused, each writing nothing; and two that just fit.

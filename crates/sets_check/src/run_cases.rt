@@ -1,14 +1,13 @@
 use crate::agreement::agreeing;
-use crate::cells::{Cell, buffer, count_up};
+use crate::cells::{Cell, buffer, checksum};
 use crate::{lists, shown};
 use foreign::every::Every;
-use lanes::lanes::Lanes;
 use lanes::transpose::loads::load_transposed;
 use patches::column::Column;
 use patches::corrections::{ChunkTable, Corrections};
 use patches::patch_set::PatchSet;
 use patches::window::Window;
-use runs::attempts::Run;
+use runs::attempts::{Entry, Run};
 
 // Where a run stands, with its rows and its count where it tells them. The run is spent.
 fn spent(run: Run) -> (&'static str, u64, u64) {
@@ -23,22 +22,18 @@ fn spent(run: Run) -> (&'static str, u64, u64) {
     }
 }
 
-// Makes a list of attempts with a new run: a whole one, or one that is abandoned.
+// Makes a list of attempts with a new run, and so many cells fewer than its steps ask for.
 fn attempt_list<V: Cell, S: PatchSet<Value = V>>(
     rt: &HostRuntime,
     set: &S,
-    phase: u64,
-    whole: bool,
+    mut list: Vec<Entry>,
+    missing: u64,
 ) -> anyhow::Result<()> {
-    let heap = rt.alloc();
-    let mut list = lists::list(heap, set.rows(), phase, whole)?;
-    let missing = if whole { 0 } else { 101 };
-    let mut cells = buffer::<V>(heap, lists::asked(list.as_slice()).wrapping_sub(missing))?;
-    let run = Run::new().attempt_all(set, list.as_mut_slice(), cells.as_mut_slice());
+    let mut cells = buffer::<V>(rt.alloc(), lists::asked(&list).wrapping_sub(missing))?;
+    let run = Run::new().attempt_all(set, &mut list, &mut cells);
     let (state, rows, count) = spent(run);
-    shown::outcomes(rt, list.as_slice())?;
-    let sum = count_up(cells.as_slice(), u64::MAX).sum;
-    shown::line(rt, state, &[rows, count, sum])
+    shown::outcomes(rt, &list)?;
+    shown::line(rt, state, &[rows, count, checksum(&cells)])
 }
 
 // A whole run and an abandoned one, in each phase.
@@ -48,11 +43,12 @@ fn in_phases<V: Cell, S: PatchSet<Value = V>>(
     set: &S,
     phases: &[u64],
 ) -> anyhow::Result<()> {
+    let heap = rt.alloc();
+    let rows = set.rows();
     for phase in phases {
         shown::line(rt, name, &[*phase])?;
-        for whole in [true, false] {
-            attempt_list::<V, S>(rt, set, *phase, whole)?;
-        }
+        attempt_list(rt, set, lists::whole(heap, rows, *phase)?, 0)?;
+        attempt_list(rt, set, lists::abandoned(heap, rows, *phase)?, 101)?;
     }
     Ok(())
 }
@@ -63,16 +59,11 @@ fn over_lanes(rt: &HostRuntime, set: &Every, phases: &[u64]) -> anyhow::Result<(
     let mut offsets = buffer(heap, 49)?;
     let mut entries = buffer(heap, 700)?;
     let mut values = buffer(heap, 700)?;
-    let mut lanes = Lanes::empty();
-    let loaded = load_transposed(
-        &mut lanes,
-        set,
-        16,
-        offsets.as_mut_slice(),
-        entries.as_mut_slice(),
-        values.as_mut_slice(),
-    );
-    shown::outcome(rt, "lanes for a run", loaded)?;
+    let lanes = match load_transposed(set, 16, &mut offsets, &mut entries, &mut values) {
+        Ok(lanes) => lanes,
+        Err(refusal) => return shown::outcome(rt, "lanes for a run", Err(refusal)),
+    };
+    shown::outcome(rt, "lanes for a run", Ok(()))?;
     shown::line(rt, "  same", &[agreeing(set, &lanes)])?;
     in_phases(rt, "run over lanes", &lanes, phases)
 }

@@ -1,4 +1,4 @@
-use crate::cells::{buffer, count_up};
+use crate::cells::{blank_from, buffer};
 use crate::shown;
 use foreign::every::Every;
 use foreign::mark::Mark;
@@ -8,14 +8,7 @@ use runs::run::{OpenRun, Unfinished};
 
 // Opens a run for so many rows, and abandons it.
 fn opening(rt: &HostRuntime, name: &str, rows: u64) -> anyhow::Result<()> {
-    let result = match OpenRun::open(rows, 0) {
-        Ok(run) => {
-            run.abandon();
-            Ok(())
-        }
-        Err(refusal) => Err(refusal),
-    };
-    shown::outcome(rt, name, result)
+    shown::outcome(rt, name, OpenRun::open(rows, 0).map(OpenRun::abandon))
 }
 
 // Hands a run some cells, blank at first, and says how many are blank afterwards.
@@ -27,23 +20,19 @@ fn hand<S: PatchSet<Value = Mark>>(
     n: u64,
 ) -> anyhow::Result<()> {
     let mut cells = buffer(rt.alloc(), n)?;
-    shown::outcome(rt, name, run.step(set, cells.as_mut_slice()))?;
-    shown::line(rt, "  blank", &[count_up(cells.as_slice(), 0).blank, n])
+    shown::outcome(rt, name, run.step(set, &mut cells))?;
+    shown::line(rt, "  blank", &[blank_from(&cells, 0), n])
 }
 
 // Closes a run, and says its rows and its count. A refused one is abandoned.
 fn ended(rt: &HostRuntime, run: OpenRun) -> anyhow::Result<()> {
-    let refusal = match run.close() {
-        Ok(closed) => {
-            return shown::line(rt, "closed", &[closed.rows(), closed.count()]);
-        }
-        Err(back) => {
-            let Unfinished { run, refusal } = back;
+    match run.close() {
+        Ok(closed) => shown::line(rt, "closed", &[closed.rows(), closed.count()]),
+        Err(Unfinished { run, refusal }) => {
             run.abandon();
-            refusal
+            shown::outcome(rt, "abandoned", Err(refusal))
         }
-    };
-    shown::outcome(rt, "abandoned", Err(refusal))
+    }
 }
 
 // Steps that are refused at the first chunk, of 4 rows.
@@ -73,17 +62,15 @@ fn with_refusals(rt: &HostRuntime) -> anyhow::Result<()> {
         return Ok(());
     };
     let refused = refused_steps(rt, &mut run, &set);
-    let mut run = match run.close() {
-        Ok(_) => return refused,
-        Err(back) => {
-            let Unfinished { run, refusal } = back;
-            let _ = shown::outcome(rt, "closed at once", Err(refusal));
-            run
-        }
+    let Err(Unfinished { mut run, refusal }) = run.close() else {
+        return refused;
     };
+    // a `?` here would drop the run, so a failed print waits until it ends
+    let early = shown::outcome(rt, "closed at once", Err(refusal));
     let accepted = accepted_steps(rt, &mut run, &set);
     ended(rt, run)?;
     refused?;
+    early?;
     accepted
 }
 

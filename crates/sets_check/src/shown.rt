@@ -1,5 +1,5 @@
 use patches::refusal::Refusal;
-use runs::attempts::{Entry, Outcome};
+use runs::attempts::{AttemptError, Entry};
 
 /// A name and numbers, on one line.
 pub fn line(rt: &HostRuntime, name: &str, numbers: &[u64]) -> anyhow::Result<()> {
@@ -11,12 +11,13 @@ pub fn line(rt: &HostRuntime, name: &str, numbers: &[u64]) -> anyhow::Result<()>
 pub fn outcome(rt: &HostRuntime, name: &str, res: Result<(), Refusal>) -> anyhow::Result<()> {
     match res {
         Ok(()) => println!(rt; "{name}: accepted")?,
-        Err(refusal) => {
-            let number = refusal.reason.number();
-            let part = refusal.part;
-            let place = refusal.place;
-            println!(rt; "{name}: {number} {part} {place}")?
-        }
+        Err(
+            Refusal {
+                reason,
+                part,
+                place,
+            },
+        ) => println!(rt; "{name}: {} {part} {place}", reason.number())?,
     }
     Ok(())
 }
@@ -25,14 +26,17 @@ pub fn outcome(rt: &HostRuntime, name: &str, res: Result<(), Refusal>) -> anyhow
 pub fn outcomes(rt: &HostRuntime, entries: &[Entry]) -> anyhow::Result<()> {
     for entry in entries {
         match entry.outcome {
-            Outcome::NotMade => print!(rt; " not-made")?,
-            Outcome::Accepted => print!(rt; " accepted")?,
-            Outcome::Refused(refusal) => {
-                let number = refusal.reason.number();
-                let part = refusal.part;
-                let place = refusal.place;
-                print!(rt; " {number}/{part}/{place}")?
-            }
+            Ok(()) => print!(rt; " accepted")?,
+            Err(AttemptError::NotMade) => print!(rt; " not-made")?,
+            Err(
+                AttemptError::Refused(
+                    Refusal {
+                        reason,
+                        part,
+                        place,
+                    },
+                ),
+            ) => print!(rt; " {}/{part}/{place}", reason.number())?,
         }
     }
     println!(rt; "")?;

@@ -1,10 +1,6 @@
-//! The work of a month's end: a job file, the cells of a price history, look-ups, and the steps in which a run goes through
-//! the history.
+//! What a month's end needs where the history is streamed: look-ups in rising row, and the steps in which a run goes
+//! through the history.
 #![tactic(auto)]
 
-pub mod cells;
-pub mod job;
 pub mod lookups;
-pub mod report;
-pub mod totals;
 pub mod work;

@@ -2,12 +2,6 @@
 #![tactic(auto)]
 
 #[cfg(test)]
-mod cells;
-#[cfg(test)]
-mod job;
-#[cfg(test)]
 mod lookups;
-#[cfg(test)]
-mod totals;
 #[cfg(test)]
 mod work;

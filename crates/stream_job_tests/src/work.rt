@@ -1,25 +1,46 @@
 //! Tests of `stream_job::work`.
-use runs::attempts::{Attempt, Entry, Outcome};
+use month_job::correct::check_count;
+use month_job::job::{JobForm, parse};
+use runs::attempts::{Attempt, AttemptError, Entry};
 use std::test::Fail;
-use stream_job::work::{block_count, check_accepted, check_count, offset_room, plan};
+use stream_job::work::{asked_rows, block_count, check_accepted, offset_room, plan};
 
-fn cells_of(entry: &Entry) -> usize {
-    match entry.attempt {
-        Attempt::Step { cells, set_rows: _ } => cells,
-        _ => 0,
-    }
+const PLAIN: &str =
+    "# prices\n\nhistory a b.bin\nhistory c\n  rows 5000 \noffset 1500\nwidth 4\nindices i\nvalues v\nlookup 7\nlookup 0\noutput o\n";
+
+#[test]
+fn a_job_for_some_rows(rt: HostRuntime) -> Result<(), Fail> {
+    let text = format!(in rt.alloc(); "{PLAIN}from 100\nlanes 16\nto 4900\n")?;
+    let job = parse(rt.alloc(), JobForm::Rows, text.as_str())?;
+    assert_eq!(rt;
+        (job.from, job.to, job.lanes),
+        (Some(100), Some(4900), Some(16))
+    );
+    let work = asked_rows(&job);
+    assert_eq!(rt; (work.first, work.end), (100, 4900));
+    Ok(())
+}
+
+#[test]
+fn a_job_from_a_row_on(rt: HostRuntime) -> Result<(), Fail> {
+    let text = format!(in rt.alloc(); "{PLAIN}from 7\n")?;
+    let job = parse(rt.alloc(), JobForm::Rows, text.as_str())?;
+    let work = asked_rows(&job);
+    assert_eq!(rt; (work.first, work.end), (7, 5000));
+    Ok(())
 }
 
 #[test]
 fn five_thousand_rows(rt: HostRuntime) -> Result<(), Fail> {
     assert_eq!(rt; block_count(1500, 5000), 1);
-    let Ok(block) = plan(rt.alloc(), 0, 1500, 5000) else {
-        return Err(Fail::new("the block is not planned"));
-    };
+    let block = plan(rt.alloc(), 0, 1500, 5000)?;
     assert_eq!(rt; block.cells, 5000);
     assert!(rt; block.entries.len() == 6);
     assert_eq!(rt;
-        (cells_of(&block.entries[0]), cells_of(&block.entries[5])),
+        (
+            block.entries[0].attempt.cells(),
+            block.entries[5].attempt.cells(),
+        ),
         (548, 356)
     );
     Ok(())
@@ -28,9 +49,7 @@ fn five_thousand_rows(rt: HostRuntime) -> Result<(), Fail> {
 #[test]
 fn the_last_block(rt: HostRuntime) -> Result<(), Fail> {
     assert_eq!(rt; block_count(0, 65537), 2);
-    let Ok(block) = plan(rt.alloc(), 1, 0, 65537) else {
-        return Err(Fail::new("the block is not planned"));
-    };
+    let block = plan(rt.alloc(), 1, 0, 65537)?;
     assert_eq!(rt; (block.cells, block.entries.len()), (1, 1));
     Ok(())
 }
@@ -44,7 +63,7 @@ fn counts(rt: HostRuntime) {
             offset_room(1025, 4800),
             offset_room(1, 0),
         ),
-        (81, 0, 1)
+        (Some(81), None, Some(1))
     );
 }
 
@@ -52,11 +71,11 @@ fn counts(rt: HostRuntime) {
 fn an_attempt_that_was_not_made(rt: HostRuntime) {
     let accepted = Entry {
         attempt: Attempt::Close,
-        outcome: Outcome::Accepted,
+        outcome: Ok(()),
     };
     let idle = Entry {
         attempt: Attempt::Close,
-        outcome: Outcome::NotMade,
+        outcome: Err(AttemptError::NotMade),
     };
     assert!(rt; check_accepted(&[accepted, accepted]).is_ok());
     assert!(rt; check_accepted(&[accepted, idle]).is_err());

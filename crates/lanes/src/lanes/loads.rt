@@ -1,126 +1,100 @@
-ghost use Rattle.std.specs.Prelude.{◌≡◌, ◌+◌, ◌-◌, ◌*◌, ◌/◌, ◌%◌, ◌<◌, ◌≤◌, length, Decides, slice_index};
+ghost use Rattle.std.specs.Prelude.{◌≡◌, ◌+◌, ◌-◌, ◌*◌, ◌/◌, ◌%◌, ◌<◌, ◌≤◌, length, Decides, IfOk, MatchOption, slice_index};
 ghost use Rattle.patches.specs.declared.refusal.Part.TheVariants.{Lanes as LanesPart};
-ghost use Rattle.patches.specs.Chunks.{limit};
+ghost use Rattle.patches.specs.declared.refusal.Reason.TheVariants.{LaneTable};
 ghost use Rattle.patches.specs.Refusals.{Judged};
-ghost use Rattle.lanes.specs.LaneRules.{BreaksIn, IsLaneCount, lane_rules, WrongOffset, RightOffsets, WrongEntry};
-ghost use Rattle.lanes.specs.LaneLoads.{First, WrongIn, PlaceIn, Empty, Loaded};
+ghost use Rattle.lanes.specs.LaneRules.{BreaksIn, lane_rules, WrongOffset, WrongEntry, WrongPlace, RightOffsets, RightEntries};
+ghost use Rattle.lanes.specs.LaneLoads.{First, WrongIn, Empty, Holds};
 
-use crate::lane_count::is_lane_count;
+use crate::lane_count::LaneCount;
+use crate::lanes::places::Places;
 use crate::lanes::{LaneTables, Lanes};
-use patches::chunks::{LIMIT, chunk_total};
+use patches::chunks::LIMIT;
 use patches::refusal::{Part, Reason, Refusal};
 
-// Lane tables without their values.
-#[derive(Clone, Copy)]
-struct Places<'a> {
-    rows: u64,
-    lanes: u64,
-    offsets: &'a [u32],
-    entries: &'a [u16],
-}
-
-// Whether the offset at a place breaks a rule.
-fn is_wrong_offset(offsets: &[u32], entries: &[u16], place: usize) -> bool
-    requires { place < length offsets.now }
-    ensures { Decides result (WrongOffset offsets.now entries.now place) }
-{
-    let offset = offsets[place];
-    if place == 0 && offset > 0 {
-        return true;
-    }
-    if place > 0 && offset < offsets[place - 1] {
-        return true;
-    }
-    place + 1 == offsets.len() && offset as usize != entries.len()
-}
-
-// The place of the first offset that breaks a rule, or none.
-fn first_wrong_offset(offsets: &[u32], entries: &[u16]) -> Option<usize>
-    ensures { First (WrongOffset offsets.now entries.now) result }
-{
-    for place in 0..offsets.len() {
-        if is_wrong_offset(offsets, entries, place) {
-            return Some(place);
+impl Places<'_> {
+    // Whether the offset at a place breaks a rule.
+    fn is_wrong_offset(&self, place: usize) -> bool
+        requires { place < length self.now.offsets.now }
+        ensures { Decides result (WrongOffset self.now.offsets.now self.now.entries.now place) }
+    {
+        let offset = self.offsets[place];
+        if place == 0 && offset > 0 {
+            return true;
         }
-    }
-    None
-}
-
-// Whether the entry at a place of a lane breaks a rule.
-fn is_wrong_entry(tables: Places, lane: usize, place: usize) -> bool
-    requires count { 0 < tables.lanes }
-    requires lane { lane + 1 < length tables.offsets.now }
-    requires few { lane < 4294967296 }
-    requires place { place < length tables.entries.now }
-    ensures { Decides result (BreaksIn tables.entry.offsets.now tables.entry.entries.now tables.entry.rows tables.entry.lanes lane place) }
-{
-    let entries = tables.entries;
-    let offsets = tables.offsets;
-    let entry = entries[place] as u64;
-    let number = lane as u64;
-    if entry >= 1024 || entry % tables.lanes != number % tables.lanes {
-        return true;
-    }
-    if 1024 * (number / tables.lanes) + entry >= tables.rows {
-        return true;
-    }
-    place > offsets[lane] as usize && entries[place] <= entries[place - 1]
-}
-
-// The place of the first entry of a lane that breaks a rule, or none.
-fn first_wrong_in(tables: Places, lane: usize) -> Option<usize>
-    requires count { 0 < tables.lanes }
-    requires lane { lane + 1 < length tables.offsets.now }
-    requires few { lane < 4294967296 }
-    requires places { slice_index tables.offsets.now (lane + 1) ≤ length tables.entries.now }
-    ensures { First (WrongIn tables.entry.offsets.now tables.entry.entries.now tables.entry.rows tables.entry.lanes lane) result }
-{
-    let offsets = tables.offsets;
-    for place in offsets[lane] as usize..offsets[lane + 1] as usize {
-        if is_wrong_entry(tables, lane, place) {
-            return Some(place);
+        if place > 0 && offset < self.offsets[place - 1] {
+            return true;
         }
+        place + 1 == self.offsets.len() && offset as usize != self.entries.len()
     }
-    None
-}
 
-// The place of the first entry that breaks a rule, or none, where the offsets break none.
-fn first_wrong_entry(tables: Places) -> Option<usize>
-    requires count { 0 < tables.lanes }
-    requires few { length tables.offsets.now ≤ 4294967296 }
-    requires right { RightOffsets tables.offsets.now tables.entries.now }
-    ensures { First (WrongEntry tables.entry.offsets.now tables.entry.entries.now tables.entry.rows tables.entry.lanes) result }
-{
-    let offsets = tables.offsets;
-    let mut lane = 0;
-    while lane + 1 < offsets.len() {
-        if let Some(place) = first_wrong_in(tables, lane) {
-            return Some(place);
+    // The place of the first offset that breaks a rule, or none.
+    fn first_wrong_offset(&self) -> Option<usize>
+        ensures { First (WrongOffset self.now.offsets.now self.now.entries.now) result }
+    {
+        (0..self.offsets.len()).find(|place| self.is_wrong_offset(*place))
+    }
+
+    // Whether the entry at a place of a lane breaks a rule.
+    fn is_wrong_entry(&self, lane: usize, place: usize) -> bool
+        requires lane { lane + 1 < length self.now.offsets.now }
+        requires place { place < length self.now.entries.now }
+        ensures { Decides result (BreaksIn self.now.offsets.now self.now.entries.now self.now.rows self.now.lanes.number lane place) }
+    {
+        let entry = self.entries[place] as u64;
+        let number = lane as u64;
+        let lanes = self.lanes.number;
+        if entry >= 1024 || entry % lanes != number % lanes {
+            return true;
         }
-        lane += 1;
+        if 1024 * (number / lanes) + entry >= self.rows {
+            return true;
+        }
+        place > self.offsets[lane] as usize && self.entries[place] <= self.entries[place - 1]
     }
-    None
+
+    // The place of the first entry of a lane that breaks a rule, or none.
+    fn first_wrong_in(&self, lane: usize) -> Option<usize>
+        requires lane { lane + 1 < length self.now.offsets.now }
+        requires places { slice_index self.now.offsets.now (lane + 1) ≤ length self.now.entries.now }
+        ensures { First (WrongIn self.now.offsets.now self.now.entries.now self.now.rows self.now.lanes.number lane) result }
+    {
+        self.of_lane(lane)
+            .find(|place| self.is_wrong_entry(lane, *place))
+    }
+
+    // The place of the first entry that breaks a rule, or none, where the offsets break none. A loop with an invariant: from
+    // what `find_map` promises of its answer the check does not show that each lane before was asked.
+    fn first_wrong_entry(&self) -> Option<usize>
+        requires { RightOffsets self.now.offsets.now self.now.entries.now }
+        ensures { First (WrongEntry self.now.offsets.now self.now.entries.now self.now.rows self.now.lanes.number) result }
+    {
+        for lane in 0..self.offsets.len() - 1 {
+            if let Some(place) = self.first_wrong_in(lane) {
+                return Some(place);
+            }
+        }
+        None
+    }
+
+    // A place at which the tables break a rule, counted on from the offsets to the entries, or none.
+    fn wrong_place(&self) -> Option<u64>
+        ensures { MatchOption result (RightOffsets self.now.offsets.now self.now.entries.now × RightEntries self.now.offsets.now self.now.entries.now self.now.rows self.now.lanes.number) (WrongPlace self.now.offsets.now self.now.entries.now self.now.rows self.now.lanes.number) }
+    {
+        if let Some(place) = self.first_wrong_offset() {
+            return Some(place as u64);
+        }
+        let place = self.first_wrong_entry()?;
+        Some((self.offsets.len() + place) as u64)
+    }
 }
 
-// A place at which tables with so many values break a rule, counted on from the offsets to the entries, or none.
-fn wrong_place(tables: Places, values: usize) -> Option<u64>
-    requires rows { tables.rows ≤ limit }
-    requires count { IsLaneCount tables.lanes }
-    ensures { PlaceIn tables.entry.offsets.now tables.entry.entries.now tables.entry.rows tables.entry.lanes values result }
+// The refusal of tables that break a rule at a place.
+fn wrong_table(place: u64) -> Refusal
+    ensures reason { result.reason ≡ LaneTable }
+    ensures part { result.part ≡ LanesPart }
+    ensures place { result.place ≡ place }
 {
-    let offsets = tables.offsets;
-    let entries = tables.entries;
-    let expected = chunk_total(0, tables.rows) * tables.lanes + 1;
-    if offsets.len() as u64 != expected || values != entries.len() {
-        return Some(0);
-    }
-    if let Some(place) = first_wrong_offset(offsets, entries) {
-        return Some(place as u64);
-    }
-    match first_wrong_entry(tables) {
-        Some(place) => Some((offsets.len() + place) as u64),
-        None => None,
-    }
+    Refusal::by(Part::Lanes, Reason::LaneTable, place)
 }
 
 impl<'a, V> Lanes<'a, V> {
@@ -128,59 +102,60 @@ impl<'a, V> Lanes<'a, V> {
     pub fn empty() -> Self
         ensures { Empty result }
     {
-        Lanes {
+        let places = Places {
             rows: 0,
-            lanes: 1,
+            lanes: LaneCount::one(),
             offsets: &[0],
             entries: &[],
+        };
+        Lanes {
+            places,
             values: &[],
         }
     }
 
-    /// Fills the lanes with the tables, after judging them all. A refusal leaves the lanes as they were.
+    /// Lanes over the tables, after judging them all.
     ///
     /// Refuses with 5, 12 and 13, in this order: too many rows, a lane count that is no power of two up to 1024, and
     /// tables that break a rule (place: 0 for a wrong length, else the offset's, else, counted on, the entry's).
-    pub fn load(&mut self, tables: &LaneTables<'a, V>) -> Result<(), Refusal>
+    pub fn load(tables: &LaneTables<'a, V>) -> Result<Self, Refusal>
         ensures judged { Judged LanesPart (lane_rules tables.now.rows tables.now.lanes tables.now.offsets.now tables.now.entries.now (length tables.now.values.now)) result }
-        ensures holds { Loaded self.old self.new tables.now result }
+        ensures holds { IfOk result (λ lanes. Holds lanes tables.now) }
     {
         if tables.rows > LIMIT {
             return Err(Refusal::by(Part::Lanes, Reason::RowLimit, 0));
         }
-        if !is_lane_count(tables.lanes) {
-            return Err(Refusal::by(Part::Lanes, Reason::LaneCount, 0));
+        let lanes = LaneCount::new(tables.lanes)?;
+        let offset_count = lanes.total(tables.rows) + 1;
+        if tables.offsets.len() != offset_count || tables.values.len() != tables.entries.len() {
+            return Err(wrong_table(0));
         }
         let places = Places {
             rows: tables.rows,
-            lanes: tables.lanes,
+            lanes,
             offsets: tables.offsets,
             entries: tables.entries,
         };
-        if let Some(place) = wrong_place(places, tables.values.len()) {
-            return Err(Refusal::by(Part::Lanes, Reason::LaneTable, place));
+        if let Some(place) = places.wrong_place() {
+            return Err(wrong_table(place));
         }
-        *self = Lanes {
-            rows: tables.rows,
-            lanes: tables.lanes,
-            offsets: tables.offsets,
-            entries: tables.entries,
+        Ok(Lanes {
+            places,
             values: tables.values,
-        };
-        Ok(())
+        })
     }
 
     /// How many lanes a chunk has.
     pub fn lane_count(&self) -> u64
-        ensures { result ≡ self.now.lanes }
+        ensures { result ≡ self.now.places.lanes.number }
     {
-        self.lanes
+        self.places.lanes.number
     }
 
     /// How many rows are patched.
     pub fn num_patches(&self) -> usize
-        ensures { result ≡ length self.now.entries.now }
+        ensures { result ≡ length self.now.places.entries.now }
     {
-        self.entries.len()
+        self.places.entries.len()
     }
 }

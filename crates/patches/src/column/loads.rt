@@ -5,70 +5,65 @@ ghost use Rattle.patches.specs.declared.refusal.Part.TheVariants.{Column as Colu
 ghost use Rattle.patches.specs.Chunks.{limit};
 ghost use Rattle.patches.specs.declared.refusal.Reason.TheVariants.{RowLimit};
 ghost use Rattle.patches.specs.Refusals.{Judged, rule};
-ghost use Rattle.patches.specs.Indices.{count_under};
+ghost use Rattle.patches.specs.Indices.{Inside, count_under};
 ghost use Rattle.patches.specs.Columns.{Cleared};
 ghost use Rattle.patches.specs.Tables.{Fits};
-ghost use Rattle.patches.specs.Loads.{shape_rules, order_rule, range_rule, table_rule, index_rules, load_rules, Loaded, SameTable, Sound, WrongFrom, TableEntries};
+ghost use Rattle.patches.specs.Loads.{shape_rules, order_rule, range_rule, table_rule, index_rules, load_rules, Loaded, SameTable, Shaped, Sound, RightEntry, WrongFrom, WholeTable};
 
-use crate::chunks::{LIMIT, chunk_total};
+use crate::chunks::LIMIT;
 use crate::column::Column;
 use crate::corrections::{ChunkTable, Corrections};
 use crate::refusal::{Part, Reason, Refusal};
+use crate::span::Span;
 use crate::table::ChunkOffsets;
 use search_sorted::{Packed, Rising, Width};
 
-// Judges widths, counts and rows, and answers the width of the indices.
-fn judge_shape(
-    width: u64,
-    indices: &[u8],
-    values: usize,
-    rows: u64,
-    offset: u64,
-) -> Result<Width, Refusal>
-    ensures judged { Judged ColumnPart (shape_rules width indices.now values rows offset) result }
-    ensures width { IfOk result (λ w. size w ≡ width) }
+// Judges widths, counts and rows, and answers the indices as numbers, and the rows with their offset.
+fn judge_shape<'a, V>(file: &Corrections<'a, V>) -> Result<(Packed<'a>, Span), Refusal>
+    ensures judged { Judged ColumnPart (shape_rules file.now.width file.now.indices.now (length file.now.values.now) file.now.rows file.now.offset) result }
+    ensures shaped { IfOk result (λ s. Shaped file.now s.0 s.1) }
 {
-    let Some(kind) = Width::from_bytes(width) else {
+    let Ok(width) = Width::try_from(file.width) else {
         return Err(Refusal::by(Part::Column, Reason::IndexWidth, 0));
     };
-    let step = kind.bytes();
-    if indices.len() % step != 0 {
+    let numbers = Packed::new(width, file.indices);
+    if file.indices.len() % width.bytes() != 0 {
         return Err(Refusal::by(Part::Column, Reason::IndexBytes, 0));
     }
-    if indices.len() == 0 {
+    if file.indices.is_empty() {
         return Err(Refusal::by(Part::Column, Reason::NoIndex, 0));
     }
-    if values != indices.len() / step {
+    if file.values.len() != numbers.len() {
         return Err(Refusal::by(Part::Column, Reason::ValueCount, 0));
     }
-    if offset > LIMIT || rows > LIMIT - offset {
-        return Err(Refusal::by(Part::Column, Reason::RowLimit, 0));
-    }
-    Ok(kind)
+    let span = Span::judge(file.offset, file.rows)?;
+    Ok((numbers, span))
 }
 
-// Judges the order of the indices; the rising indices are then those numbers.
-fn judge_order<'a>(indices: &mut Rising<'a>, numbers: Packed<'a>) -> Result<(), Refusal>
+// Judges the order of the indices, and answers them as rising.
+fn judge_order<'a>(numbers: Packed<'a>) -> Result<Rising<'a>, Refusal>
     ensures judged { Judged ColumnPart (order_rule (number numbers.entry) (count numbers.entry) ∷ []) result }
-    ensures holds { OnOk result (indices.new.numbers ≡ numbers.entry) }
+    ensures holds { IfOk result (λ r. r.numbers ≡ numbers.entry) }
 {
-    match indices.load(numbers) {
-        Ok(()) => Ok(()),
-        Err(place) => Err(Refusal::by(Part::Column, Reason::IndexOrder, place as u64)),
-    }
+    Rising::try_from(numbers).map_err(|fall| Refusal::by(
+        Part::Column,
+        Reason::IndexOrder,
+        fall.place as u64,
+    ))
 }
 
 // Judges the first index, and then the last: as indices rise, the others lie between them.
-fn judge_range(numbers: &Packed, offset: u64, rows: u64) -> Result<(), Refusal>
-    requires some { 0 < count numbers.now }
-    requires short { offset + rows ≤ limit }
-    ensures { Judged ColumnPart (range_rule (number numbers.now) (count numbers.now) offset rows ∷ []) result }
+fn judge_range(indices: &Rising, span: Span) -> Result<(), Refusal>
+    requires some { 0 < count indices.now.numbers }
+    ensures judged { Judged ColumnPart (range_rule (number indices.now.numbers) (count indices.now.numbers) span.offset span.rows ∷ []) result }
+    ensures inside { OnOk result (Inside (number indices.now.numbers) (count indices.now.numbers) span.offset span.rows) }
 {
+    let numbers = indices.numbers();
     let last = numbers.len() - 1;
-    if numbers.get(0) < Some(offset) {
+    if numbers.get(0) < Some(span.offset) {
         return Err(Refusal::by(Part::Column, Reason::IndexRange, 0));
     }
-    if numbers.get(last) >= Some(offset + rows) {
+    if numbers.get(last) >= Some(span.end()) {
         return Err(Refusal::by(Part::Column, Reason::IndexRange, last as u64));
     }
     Ok(())
@@ -86,10 +81,7 @@ fn below_before(numbers: &Packed, place: usize, bound: u64) -> bool
 fn not_below_at(numbers: &Packed, place: usize, bound: u64) -> bool
     ensures { Decides result (place < count numbers.now → bound ≤ number numbers.now place) }
 {
-    match numbers.get(place) {
-        Some(number) => number >= bound,
-        None => true,
-    }
+    numbers.get(place).is_none_or(|number| number >= bound)
 }
 
 // Whether so many of the indices are below a bound: as they rise, it is enough to look at two of them.
@@ -104,91 +96,85 @@ fn is_count_under(indices: &Rising, place: u64, bound: u64) -> bool
     below_before(&numbers, place, bound) && not_below_at(&numbers, place, bound)
 }
 
-// The first chunk, from chunk 1 on, whose entry is not the base and the number of indices below the chunk's start.
-fn first_wrong(indices: &Rising, entries: &Packed, base: u64, offset: u64) -> Option<u64>
-    requires base { base ≤ 4294967296 }
-    requires few { count entries.now ≤ 4294967296 }
-    requires short { offset ≤ limit }
-    ensures { WrongFrom (number indices.now.numbers) (count indices.now.numbers) (number entries.now) base offset (count entries.now) result }
+// Whether a chunk's entry, if there is one, is the base and the number of indices below the chunk's start.
+fn is_right(indices: &Rising, table: &ChunkOffsets, span: Span, chunk: u64) -> bool
+    requires some { 0 < count table.now.entries }
+    requires base { number table.now.entries 0 + table.now.within ≤ 4294967296 }
+    requires few { chunk ≤ 4294967296 }
+    ensures { Decides result (chunk < count table.now.entries → RightEntry (number indices.now.numbers) (count indices.now.numbers) (number table.now.entries) (number table.now.entries 0 + table.now.within) span.offset chunk) }
 {
-    let start = offset - offset % 1024;
-    for chunk in 1..entries.len() as u64 {
-        let right = match entries.get(chunk as usize) {
-            Some(entry) => entry >= base
-                && is_count_under(indices, entry - base, start + 1024 * chunk),
-            None => true,
-        };
-        if !right {
-            return Some(chunk);
-        }
-    }
-    None
+    let base = table.base();
+    let Some(entry) = table.entries.get(chunk as usize) else {
+        return true;
+    };
+    entry >= base && is_count_under(indices, entry - base, span.chunk_start(chunk))
 }
 
-// The entries of a table whose width, byte count, within and entry 0 are right, and none of any other.
-fn whole_table<'a>(table: &ChunkTable<'a>, offset: u64, rows: u64) -> Option<Packed<'a>>
-    requires some { 0 < rows }
-    requires short { offset + rows ≤ limit }
-    ensures { TableEntries table.now offset rows result }
+// The first chunk, from chunk 1 on, whose entry is not the base and the number of indices below the chunk's start.
+fn first_wrong(indices: &Rising, table: &ChunkOffsets, span: Span) -> Option<u64>
+    requires some { 0 < count table.now.entries }
+    requires base { number table.now.entries 0 + table.now.within ≤ 4294967296 }
+    requires few { count table.now.entries ≤ 4294967296 }
+    ensures { WrongFrom (number indices.now.numbers) (count indices.now.numbers) (number table.now.entries) (number table.now.entries 0 + table.now.within) span.offset (count table.now.entries) result }
 {
-    let width = Width::from_bytes(table.width)?;
+    (1..table.entries.len() as u64).find(|chunk| !is_right(indices, table, span, *chunk))
+}
+
+// A file's chunk data where width, byte count, within and entry 0 are right, and none of any other.
+fn whole_table<'a>(table: &ChunkTable<'a>, span: Span) -> Option<ChunkOffsets<'a>>
+    requires some { 0 < span.rows }
+    ensures { WholeTable table.now span.offset span.rows result }
+{
+    let width = Width::try_from(table.width).ok()?;
     let entries = Packed::new(width, table.entries);
     let base = entries.get(0)?;
     let bytes = table.entries.len() as u64;
-    if bytes != table.width * chunk_total(offset, rows)
-        || table.within > offset % 1024
-        || base > LIMIT
-    {
+    if bytes != table.width * span.chunks() || table.within > span.phase() || base > LIMIT {
         return None;
     }
-    Some(entries)
+    Some(ChunkOffsets {
+        entries,
+        within: table.within,
+    })
 }
 
 // Judges chunk data: the table as a whole, and then each entry.
 fn judge_chunks<'a>(
     indices: &Rising,
     table: Option<ChunkTable<'a>>,
-    offset: u64,
-    rows: u64,
+    span: Span,
 ) -> Result<Option<ChunkOffsets<'a>>, Refusal>
-    requires some { 0 < rows }
-    requires short { offset + rows ≤ limit }
-    ensures judged { Judged ColumnPart (table_rule (number indices.now.numbers) (count indices.now.numbers) table.entry offset rows ∷ []) result }
+    requires some { 0 < span.rows }
+    ensures judged { Judged ColumnPart (table_rule (number indices.now.numbers) (count indices.now.numbers) table.entry span.offset span.rows ∷ []) result }
     ensures holds { IfOk result (λ t. SameTable t table.entry) }
-    ensures fits { IfOk result (λ t. Fits (number indices.now.numbers) (count indices.now.numbers) t offset rows) }
+    ensures fits { IfOk result (λ t. Fits (number indices.now.numbers) (count indices.now.numbers) t span.offset span.rows) }
 {
     let Some(table) = table else {
         return Ok(None);
     };
-    let Some(entries) = whole_table(&table, offset, rows) else {
+    let Some(offsets) = whole_table(&table, span) else {
         return Err(Refusal::by(Part::Column, Reason::ChunkData, 0));
     };
-    let base = entries.get(0).unwrap_or(0) + table.within;
-    if let Some(chunk) = first_wrong(indices, &entries, base, offset) {
+    if let Some(chunk) = first_wrong(indices, &offsets, span) {
         return Err(Refusal::by(Part::Column, Reason::ChunkData, chunk));
     }
-    Ok(Some(ChunkOffsets {
-        entries,
-        within: table.within,
-    }))
+    Ok(Some(offsets))
 }
 
-// Judges the order of the indices, their range, and the chunk data; the rising indices are then those numbers.
+// Judges the order of the indices, their range, and the chunk data, and answers the indices as rising and the chunk data.
 fn judge_indices<'a>(
-    indices: &mut Rising<'a>,
     numbers: Packed<'a>,
     table: Option<ChunkTable<'a>>,
-    offset: u64,
-    rows: u64,
-) -> Result<Option<ChunkOffsets<'a>>, Refusal>
+    span: Span,
+) -> Result<(Rising<'a>, Option<ChunkOffsets<'a>>), Refusal>
     requires some { 0 < count numbers }
-    requires short { offset + rows ≤ limit }
-    ensures judged { Judged ColumnPart (index_rules (number numbers.entry) (count numbers.entry) table.entry offset rows) result }
-    ensures holds { IfOk result (λ t. Sound indices.new.numbers numbers.entry t table.entry offset rows) }
+    ensures judged { Judged ColumnPart (index_rules (number numbers.entry) (count numbers.entry) table.entry span.offset span.rows) result }
+    ensures holds { IfOk result (λ r. Sound r.0.numbers numbers.entry r.1 table.entry span.offset span.rows) }
 {
-    judge_order(indices, numbers)?;
-    judge_range(&numbers, offset, rows)?;
-    judge_chunks(indices, table, offset, rows)
+    let indices = judge_order(numbers)?;
+    judge_range(&indices, span)?;
+    let chunks = judge_chunks(&indices, table, span)?;
+    Ok((indices, chunks))
 }
 
 impl<'a, V> Column<'a, V> {
@@ -196,13 +182,7 @@ impl<'a, V> Column<'a, V> {
     pub fn empty() -> Self
         ensures { Cleared result 0 }
     {
-        Column {
-            rows: 0,
-            offset: 0,
-            indices: Rising::empty(),
-            values: &[],
-            chunks: None,
-        }
+        Column::without_patches(0)
     }
 
     /// Fills the column with a file's corrections, after judging them all. A refusal leaves the column as it was.
@@ -213,16 +193,8 @@ impl<'a, V> Column<'a, V> {
         ensures judged { Judged ColumnPart (load_rules file.now) result }
         ensures holds { Loaded self.old self.new file.now result }
     {
-        let width = judge_shape(
-            file.width,
-            file.indices,
-            file.values.len(),
-            file.rows,
-            file.offset,
-        )?;
-        let numbers = Packed::new(width, file.indices);
-        let mut indices = Rising::empty();
-        let chunks = judge_indices(&mut indices, numbers, file.chunks, file.offset, file.rows)?;
+        let (numbers, span) = judge_shape(file)?;
+        let (indices, chunks) = judge_indices(numbers, file.chunks, span)?;
         *self = Column {
             rows: file.rows,
             offset: file.offset,
@@ -238,17 +210,22 @@ impl<'a, V> Column<'a, V> {
         ensures judged { Judged ColumnPart (rule RowLimit (limit < rows) ∷ []) result }
         ensures holds { elim result [ Ok _ ↦ Cleared self.new rows | Err _ ↦ self.new ≡ self.old ] }
     {
-        if rows > LIMIT {
-            return Err(Refusal::by(Part::Column, Reason::RowLimit, 0));
-        }
-        let indices = Rising::empty();
-        *self = Column {
+        Span::judge(0, rows)?;
+        *self = Column::without_patches(rows);
+        Ok(())
+    }
+
+    // A column of so many rows, with offset 0 and no patches.
+    fn without_patches(rows: u64) -> Self
+        requires { rows ≤ limit }
+        ensures { Cleared result rows }
+    {
+        Column {
             rows,
             offset: 0,
-            indices,
+            indices: Rising::empty(),
             values: &[],
             chunks: None,
-        };
-        Ok(())
+        }
     }
 }

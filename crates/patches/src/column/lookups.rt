@@ -2,15 +2,16 @@ ghost use Rattle.std.specs.Prelude.{◌≡◌, ℕ, ◌+◌, ◌-◌, ◌*◌, �
 ghost use Rattle.search_sorted.specs.Search.{place_of};
 ghost use Rattle.search_sorted.specs.Numbers.{got};
 ghost use Rattle.patches.specs.Chunks.{count_of_chunks, chunk_start};
-ghost use Rattle.patches.specs.Indices.{count_under};
 ghost use Rattle.patches.specs.Tables.{has_table};
-ghost use Rattle.patches.specs.Columns.{patches, index, patch_at, row_at};
-ghost use Rattle.patches.specs.Lookups.{LooksUp, shifted};
+ghost use Rattle.patches.specs.Columns.{patches, patches_under, patch_at, row_at};
+ghost use Rattle.patches.specs.Lookups.{LooksUp, Places, shifted};
 
 use crate::chunks::chunk_total;
 use crate::column::Column;
+use crate::span::Span;
 use crate::table::ChunkOffsets;
 use search_sorted::{SearchResult, SearchSortedSide};
+use std::ops::Range;
 
 impl<'a, V> Column<'a, V> {
     /// How many rows the column has, patched or not.
@@ -27,6 +28,17 @@ impl<'a, V> Column<'a, V> {
         self.offset
     }
 
+    // The rows and the offset, which together come to no more than the limit.
+    pub(crate) fn span(&self) -> Span
+        ensures offset { result.offset ≡ self.now.offset }
+        ensures rows { result.rows ≡ self.now.rows }
+    {
+        Span {
+            offset: self.offset,
+            rows: self.rows,
+        }
+    }
+
     /// How many rows are patched.
     pub fn num_patches(&self) -> usize
         ensures { result ≡ patches self.now }
@@ -38,20 +50,15 @@ impl<'a, V> Column<'a, V> {
     pub fn has_chunk_data(&self) -> bool
         ensures { result ≡ has_table self.now.chunks }
     {
-        match self.chunks {
-            Some(_) => true,
-            None => false,
-        }
+        self.chunks.is_some()
     }
 
     /// The row of the patch at a place, counted from 0 in rising row, or none past the last patch.
     pub fn patched_row(&self, place: usize) -> Option<u64>
         ensures { result ≡ got (row_at self.now) (patches self.now) place }
     {
-        match self.indices.numbers().get(place) {
-            Some(index) => Some(index - self.offset),
-            None => None,
-        }
+        let index = self.indices.numbers().get(place)?;
+        Some(index - self.offset)
     }
 
     /// How many chunks of 1024 the rows touch, counted from the chunk in which the offset lies.
@@ -61,16 +68,25 @@ impl<'a, V> Column<'a, V> {
         chunk_total(self.offset, self.rows)
     }
 
+    // The places of a chunk's patches.
+    pub(crate) fn places_of_chunk(&self, table: ChunkOffsets<'a>, chunk: u64) -> Range<usize>
+        requires own { self.now.chunks ≡ Some table }
+        requires there { chunk < count_of_chunks self.now.offset self.now.rows }
+        ensures { Places self.now (chunk_start self.now.offset chunk) (chunk_start self.now.offset (chunk + 1)) result.start result.end }
+    {
+        self.place_of_chunk(table, chunk)..self.place_of_chunk(table, chunk + 1)
+    }
+
     // How many patches lie before a chunk, by its entry; after the last chunk, all of them.
-    pub(crate) fn place_of_chunk(&self, table: ChunkOffsets<'a>, chunk: u64) -> usize
+    fn place_of_chunk(&self, table: ChunkOffsets<'a>, chunk: u64) -> usize
         requires own { self.now.chunks ≡ Some table }
         requires within { chunk ≤ count_of_chunks self.now.offset self.now.rows }
-        ensures { result ≡ count_under (index self.now) (patches self.now) (chunk_start self.now.offset chunk) }
+        ensures { result ≡ patches_under self.now (chunk_start self.now.offset chunk) }
     {
         if chunk == 0 {
             return 0;
         }
-        let base = table.entries.get(0).unwrap_or(0) + table.within;
+        let base = table.base();
         match table.entries.get(chunk as usize) {
             Some(entry) => (entry - base) as usize,
             None => self.values.len(),
@@ -86,19 +102,14 @@ impl<'a, V> Column<'a, V> {
             return SearchResult::NotFound(self.values.len());
         }
         let index = self.offset + row;
-        match self.chunks {
-            None => self.indices.search_sorted(index, SearchSortedSide::Left),
-            Some(table) => {
-                let chunk = (self.offset % 1024 + row) / 1024;
-                let from = self.place_of_chunk(table, chunk);
-                let to = self.place_of_chunk(table, chunk + 1);
-                let found = self
-                    .indices
-                    .part(from, to)
-                    .search_sorted(index, SearchSortedSide::Left);
-                counted_from(from, found)
-            }
-        }
+        let Some(table) = self.chunks else {
+            return self.indices.search_sorted(index, SearchSortedSide::Left);
+        };
+        let chunk = self.span().chunk_of(row);
+        let places = self.places_of_chunk(table, chunk);
+        let part = self.indices.part(places.start, places.end);
+        let found = part.search_sorted(index, SearchSortedSide::Left);
+        counted_from(places.start, found)
     }
 }
 
@@ -118,11 +129,8 @@ impl<'a, V: Copy> Column<'a, V> {
     pub fn get_patched(&self, row: u64) -> Option<V>
         ensures { result ≡ patch_at self.now row }
     {
-        let found = self.search_index(row);
+        let place = self.search_index(row).to_found()?;
         let values = self.values;
-        match found.to_found() {
-            Some(place) => Some(values[place]),
-            None => None,
-        }
+        Some(values[place])
     }
 }

@@ -1,13 +1,14 @@
 ghost use Rattle.std.specs.Prelude.{◌≡◌, ℕ, ◌+◌, ◌-◌, ◌*◌, ◌/◌, ◌%◌, ◌<◌, ◌≤◌, [], ◌∷◌};
 ghost use Rattle.patches.specs.declared.refusal.Part.TheVariants.{Selection};
-ghost use Rattle.patches.specs.Indices.{count_under};
 ghost use Rattle.patches.specs.Refusals.{Judged};
-ghost use Rattle.patches.specs.Columns.{patches, index};
-ghost use Rattle.patches.specs.Narrows.{row_rules, Narrowed, KeepsTable, remaining};
+ghost use Rattle.patches.specs.Columns.{patches_under};
+ghost use Rattle.patches.specs.Lookups.{Places};
+ghost use Rattle.patches.specs.Narrows.{row_rules, Narrowed, KeepsTable};
 
 use crate::column::Column;
 use crate::refusal::{Part, Reason, Refusal};
 use crate::table::ChunkOffsets;
+use std::ops::Range;
 
 impl<'a, V> Column<'a, V> {
     /// Keeps the rows from `a` up to `b`, in place: row `k` is then what row `a + k` was. Answers how many patches remain,
@@ -21,29 +22,36 @@ impl<'a, V> Column<'a, V> {
         if a > b || b > self.rows {
             return Err(Refusal::by(Part::Selection, Reason::RowRange, 0));
         }
-        let from = self.place_of_row(a);
-        let to = self.place_of_row(b);
-        let chunks = if from < to {
-            self.kept_chunks(a, b, from)
+        let Range { start, end } = self.places_of_rows(a, b);
+        let chunks = if start < end {
+            self.kept_chunks(a, b, start)
         } else {
             None
         };
-        let values = self.values;
-        let indices = self.indices.part(from, to);
+        let indices = self.indices.part(start, end);
         *self = Column {
             rows: b - a,
             offset: self.offset + a,
             indices,
-            values: &values[from..to],
+            values: &self.values[start..end],
             chunks,
         };
-        Ok(some_count(to - from))
+        Ok((start < end).then_some(end - start))
+    }
+
+    // The places of the patches of the rows from a up to b.
+    fn places_of_rows(&self, a: u64, b: u64) -> Range<usize>
+        requires order { a ≤ b }
+        requires rows { b ≤ self.now.rows }
+        ensures { Places self.now (self.now.offset + a) (self.now.offset + b) result.start result.end }
+    {
+        self.place_of_row(a)..self.place_of_row(b)
     }
 
     // How many patches lie before a row.
     fn place_of_row(&self, row: u64) -> usize
         requires { row ≤ self.now.rows }
-        ensures { result ≡ count_under (index self.now) (patches self.now) (self.now.offset + row) }
+        ensures { result ≡ patches_under self.now (self.now.offset + row) }
     {
         self.search_index(row).to_index()
     }
@@ -52,25 +60,18 @@ impl<'a, V> Column<'a, V> {
     fn kept_chunks(&self, a: u64, b: u64, dropped: usize) -> Option<ChunkOffsets<'a>>
         requires rows { b ≤ self.now.rows }
         requires some { a < b }
-        requires place { dropped ≡ count_under (index self.now) (patches self.now) (self.now.offset + a) }
+        requires place { dropped ≡ patches_under self.now (self.now.offset + a) }
         ensures { KeepsTable self.now.chunks result self.now.offset a b dropped }
     {
         let table = self.chunks?;
-        let phase = self.offset % 1024;
-        let first = (phase + a) / 1024;
-        let end = (phase + b + 1023) / 1024;
-        let base = table.entries.get(0).unwrap_or(0) + table.within + dropped as u64;
+        let span = self.span();
+        let first = span.chunk_of(a);
+        let end = (span.phase() + b).div_ceil(1024);
+        let base = table.base() + dropped as u64;
         let entries = table.entries.part(first as usize, end as usize);
         Some(ChunkOffsets {
             entries,
             within: base - entries.get(0).unwrap_or(0),
         })
     }
-}
-
-// A number, or none for 0.
-fn some_count(count: usize) -> Option<usize>
-    ensures { result ≡ remaining count }
-{
-    if count == 0 { None } else { Some(count) }
 }

@@ -6,12 +6,8 @@ use std::test::Fail;
 
 // The value of a cell: that of its patch, or 0.
 fn value_at(patches: &[(usize, i64)], cell: usize) -> i64 {
-    for (place, value) in patches {
-        if *place == cell {
-            return *value;
-        }
-    }
-    0
+    let found = patches.iter().find(|(place, _)| *place == cell);
+    found.map_or(0, |(_, value)| *value)
 }
 
 // The cells are 0 but for the patches.

@@ -31,18 +31,13 @@ pub(crate) fn chunked<'a>(
     entries: &'a [u8],
     within: u64,
 ) -> Corrections<'a, i64> {
-    let chunks = Some(ChunkTable {
-        width,
-        entries,
-        within,
-    });
     Corrections {
-        width: file.width,
-        indices: file.indices,
-        values: file.values,
-        rows: file.rows,
-        offset: file.offset,
-        chunks,
+        chunks: Some(ChunkTable {
+            width,
+            entries,
+            within,
+        }),
+        ..file
     }
 }
 
@@ -63,16 +58,14 @@ pub(crate) fn refused<T: Drop>(
     part: Part,
     place: u64,
 ) -> Result<(), Fail> {
-    match answer {
-        Ok(_) => Err(Fail::new("accepted")),
-        Err(refusal) => {
-            assert_eq!(rt;
-                (refusal.reason.number(), refusal.part, refusal.place),
-                (number, part, place)
-            );
-            Ok(())
-        },
-    }
+    let Err(refusal) = answer else {
+        return Err(Fail::new("accepted"));
+    };
+    assert_eq!(rt;
+        (refusal.reason.number(), refusal.part, refusal.place),
+        (number, part, place)
+    );
+    Ok(())
 }
 
 // Each row of the table is looked up so, and has this patch.

@@ -7,6 +7,7 @@ ghost use Rattle.runs.specs.Steps.{open_rules, step_rules, Replaced, Begun, Step
 
 use crate::run::{ClosedRun, OpenRun};
 use patches::chunks::{LIMIT, chunk_total};
+use patches::iter::patches_from;
 use patches::patch_set::PatchSet;
 use patches::refusal::{Part, Reason, Refusal};
 
@@ -14,16 +15,6 @@ use patches::refusal::{Part, Reason, Refusal};
 pub struct Unfinished {
     pub run: OpenRun,
     pub refusal: Refusal,
-}
-
-// The first row of a chunk, or the number of rows where that is less.
-fn first_row(chunk: u64, phase: u64, rows: u64) -> u64
-    requires small { chunk ≤ 4294967296 }
-    requires phase { phase < 1024 }
-    ensures { result ≡ first_row_of chunk phase rows }
-{
-    let start = (1024 * chunk).saturating_sub(phase);
-    if start < rows { start } else { rows }
 }
 
 // Sets the cells of the rows from `start` on to their patches, from patch to patch, and says how many there were.
@@ -34,21 +25,25 @@ fn replace<S: PatchSet>(set: &S, start: u64, cells: &mut [S::Value]) -> u64
 {
     let end = start + cells.len() as u64;
     let mut count = 0;
-    let mut row = start;
-    while let Some(next) = set.next(row) {
-        if next >= end {
+    for (row, value) in patches_from(set, start) {
+        if row >= end {
             break;
         }
-        if let Some(value) = set.find(next) {
-            cells[(next - start) as usize] = value;
-            count += 1;
-        }
-        row = next + 1;
+        cells[(row - start) as usize] = value;
+        count += 1;
     }
     count
 }
 
 impl OpenRun {
+    // The first row of a chunk up to the one after the next, or the number of rows where that is less.
+    fn first_row(&self, chunk: u64) -> u64
+        requires { chunk ≤ self.now.chunk + 1 }
+        ensures { result ≡ first_row_of chunk self.now.phase self.now.rows }
+    {
+        (1024 * chunk).saturating_sub(self.phase).min(self.rows)
+    }
+
     /// Opens a run for so many rows in a phase, of which only phase mod 1024 counts: its chunks are those of
     /// `chunk_range` for that offset. Refuses with 5 for more than 2147483648 rows.
     pub fn open(rows: u64, phase: u64) -> Result<OpenRun, Refusal>
@@ -70,6 +65,7 @@ impl OpenRun {
     /// goes on. Refuses with 16 where no chunk is left (place: the chunk's number), with 17 where the cells are not as
     /// many as the chunk has rows, and with 18 where the set has another number of rows than the run; the run and the
     /// cells are then as they were.
+    #[tactic(auto, using(crate::proofs::Partly::count_gap))]
     pub fn step<S: PatchSet>(&mut self, set: &S, cells: &mut [S::Value]) -> Result<(), Refusal>
         ensures judged { Judged RunPart (step_rules self.old.rows self.old.phase self.old.chunk (length cells.old) (S.PatchSet.meaning set.now).rows) result }
         ensures stepped { Stepped (S.PatchSet.meaning set.now).patch self.old self.new cells.old cells.new result }
@@ -77,8 +73,8 @@ impl OpenRun {
         if self.chunk >= chunk_total(self.phase, self.rows) {
             return Err(Refusal::by(Part::Run, Reason::ChunkNumber, self.chunk));
         }
-        let start = first_row(self.chunk, self.phase, self.rows);
-        let end = first_row(self.chunk + 1, self.phase, self.rows);
+        let start = self.first_row(self.chunk);
+        let end = self.first_row(self.chunk + 1);
         if cells.len() as u64 != end - start {
             return Err(Refusal::by(Part::Run, Reason::CellCount, 0));
         }
@@ -98,6 +94,7 @@ impl OpenRun {
             let refusal = Refusal::by(Part::Run, Reason::ChunksLeft, 0);
             return Err(Unfinished { run: self, refusal });
         }
+        // every field is named: `..` would let go of a run that has to end
         let OpenRun {
             rows,
             phase: _,
@@ -109,6 +106,7 @@ impl OpenRun {
 
     /// Ends the run without an answer.
     pub fn abandon(self) {
+        // every field is named, as in `close`
         let OpenRun {
             rows: _,
             phase: _,

@@ -1,14 +1,28 @@
 ghost use Rattle.std.specs.Prelude.{◌≡◌};
 ghost use Rattle.search_sorted.specs.Numbers.{count, numbers_of, PartOf};
-ghost use Rattle.search_sorted.specs.Loads.{Loads};
+ghost use Rattle.search_sorted.specs.Risings.{RisingOf};
 ghost use Rattle.search_sorted.specs.Naturals.{natural};
 ghost use Rattle.search_sorted.specs.Search.{Answers, SidePoint, place_of};
 
 use crate::keys::Keys;
 use crate::packed::Packed;
-use crate::rising::Rising;
+use crate::rising::{NotRising, Rising};
 use crate::search::{SearchResult, SearchSortedSide, search_sorted};
 use crate::width::Width;
+
+/// These numbers as rising ones, if each is above the one before.
+impl<'a> TryFrom<Packed<'a>> for Rising<'a> {
+    type Error = NotRising;
+
+    ghost try_from_gives = { RisingOf };
+
+    fn try_from(numbers: Packed<'a>) -> Result<Self, NotRising> {
+        match numbers.first_fall() {
+            Some(place) => Err(NotRising { place }),
+            None => Ok(Rising { numbers }),
+        }
+    }
+}
 
 impl<'a> Rising<'a> {
     /// No numbers at all.
@@ -18,18 +32,6 @@ impl<'a> Rising<'a> {
         Rising {
             numbers: Packed::new(Width::One, &[]),
         }
-    }
-
-    /// Takes these numbers in place of its own, if each is above the one before. Otherwise it names the first place
-    /// whose number is not, and keeps its own.
-    pub fn load(&mut self, numbers: Packed<'a>) -> Result<(), usize>
-        ensures { Loads self.old self.new numbers.entry result }
-    {
-        if let Some(place) = numbers.first_fall() {
-            return Err(place);
-        }
-        self.numbers = numbers;
-        Ok(())
     }
 
     /// The numbers themselves.
@@ -53,12 +55,13 @@ impl<'a> Rising<'a> {
         ensures answer { Answers natural (numbers_of self.now.numbers) needle side result }
         ensures partition { SidePoint natural (numbers_of self.now.numbers) needle side (place_of result) }
     {
-        let bytes = self.numbers.bytes;
+        // One arm for each W: a trait over such questions would need a type and an impl for each of them.
+        let rising = *self;
         match self.numbers.width {
-            Width::One => search_sorted(&Keys::<1> { bytes }, &needle, side),
-            Width::Two => search_sorted(&Keys::<2> { bytes }, &needle, side),
-            Width::Four => search_sorted(&Keys::<4> { bytes }, &needle, side),
-            Width::Eight => search_sorted(&Keys::<8> { bytes }, &needle, side),
+            Width::One => search_sorted(&Keys::<1> { rising }, &needle, side),
+            Width::Two => search_sorted(&Keys::<2> { rising }, &needle, side),
+            Width::Four => search_sorted(&Keys::<4> { rising }, &needle, side),
+            Width::Eight => search_sorted(&Keys::<8> { rising }, &needle, side),
         }
     }
 }

@@ -5,30 +5,24 @@ use std::test::*;
 
 // So many of the rows are set.
 fn counts(rows: u64, bytes: &[u8], set: u64) -> bool {
-    match RowMask::new(rows, bytes) {
-        Some(mask) => mask.rows() == rows && mask.true_count() == set && mask.rank(u64::MAX) == set,
-        None => false,
-    }
+    RowMask::new(rows, bytes).is_some_and(|mask| {
+        mask.rows() == rows && mask.true_count() == set && mask.rank(u64::MAX) == set
+    })
 }
 
 // The row is set or not, and so many rows before it are set.
 fn has(rows: u64, bytes: &[u8], row: u64, is_set: bool, before: u64) -> bool {
-    match RowMask::new(rows, bytes) {
-        Some(mask) => mask.contains(row) == is_set && mask.rank(row) == before,
-        None => false,
-    }
+    RowMask::new(rows, bytes).is_some_and(|mask| mask.contains(row) == is_set
+        && mask.rank(row) == before)
 }
 
 // Among the set rows a row has these answers, on the left and on the right.
 fn answers(rows: u64, bytes: &[u8], row: u64, left: SearchResult, right: SearchResult) -> bool {
-    match RowMask::new(rows, bytes) {
-        Some(mask) => {
-            let set_rows = mask.set_rows();
-            search_sorted(&set_rows, &row, Left) == left
-                && search_sorted(&set_rows, &row, Right) == right
-        }
-        None => false,
-    }
+    RowMask::new(rows, bytes).is_some_and(|mask| {
+        let set_rows = mask.set_rows();
+        search_sorted(&set_rows, &row, Left) == left
+            && search_sorted(&set_rows, &row, Right) == right
+    })
 }
 
 // There is no mask of so many rows in these bytes.

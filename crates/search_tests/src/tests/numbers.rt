@@ -1,4 +1,4 @@
-use search_sorted::{Packed, Width, write_number};
+use search_sorted::{NoRoom, Packed, UnknownWidth, Width, write_number};
 use std::test::*;
 
 // What stands at a place of these bytes.
@@ -20,13 +20,13 @@ fn parts(from: usize, to: usize, len: usize, first: Option<u64>) -> bool {
 #[test]
 fn widths_by_their_bytes(rt: HostRuntime) -> Result<(), Fail> {
     assert!(rt;
-        Width::from_bytes(1) == Some(Width::One)
-            && Width::from_bytes(2) == Some(Width::Two)
-            && Width::from_bytes(4) == Some(Width::Four)
-            && Width::from_bytes(8) == Some(Width::Eight)
-            && Width::from_bytes(0) == None
-            && Width::from_bytes(3) == None
-            && Width::from_bytes(16) == None
+        Width::try_from(1) == Ok(Width::One)
+            && Width::try_from(2) == Ok(Width::Two)
+            && Width::try_from(4) == Ok(Width::Four)
+            && Width::try_from(8) == Ok(Width::Eight)
+            && Width::try_from(0) == Err(UnknownWidth(0))
+            && Width::try_from(3) == Err(UnknownWidth(3))
+            && Width::try_from(16) == Err(UnknownWidth(16))
     );
     Ok(())
 }
@@ -91,7 +91,7 @@ fn numbers_of_eight_bytes(rt: HostRuntime) -> Result<(), Fail> {
 #[test]
 fn a_number_is_written_least_byte_first(rt: HostRuntime) -> Result<(), Fail> {
     let mut out = [9; 17];
-    assert!(rt; write_number(&mut out, 1, 72623859790382856));
+    assert!(rt; write_number(&mut out, 1, 72623859790382856) == Ok(()));
     assert!(rt; out == [9, 9, 9, 9, 9, 9, 9, 9, 8, 7, 6, 5, 4, 3, 2, 1, 9]);
     Ok(())
 }
@@ -99,7 +99,7 @@ fn a_number_is_written_least_byte_first(rt: HostRuntime) -> Result<(), Fail> {
 #[test]
 fn the_largest_number_is_written(rt: HostRuntime) -> Result<(), Fail> {
     let mut out = [9; 9];
-    assert!(rt; write_number(&mut out, 0, 18446744073709551615));
+    assert!(rt; write_number(&mut out, 0, 18446744073709551615) == Ok(()));
     assert!(rt; out == [255, 255, 255, 255, 255, 255, 255, 255, 9]);
     Ok(())
 }
@@ -107,10 +107,10 @@ fn the_largest_number_is_written(rt: HostRuntime) -> Result<(), Fail> {
 #[test]
 fn without_room_nothing_is_written(rt: HostRuntime) -> Result<(), Fail> {
     let mut out = [9; 15];
-    assert!(rt; !write_number(&mut out, 1, 0));
-    assert!(rt; !write_number(&mut out, usize::MAX, 5));
+    assert!(rt; write_number(&mut out, 1, 0) == Err(NoRoom));
+    assert!(rt; write_number(&mut out, usize::MAX, 5) == Err(NoRoom));
     assert!(rt; out == [9; 15]);
-    assert!(rt; !write_number(&mut [], 0, 0));
+    assert!(rt; write_number(&mut [], 0, 0) == Err(NoRoom));
     Ok(())
 }
 

@@ -1,6 +1,6 @@
 use search_sorted::SearchResult::{Found, NotFound};
 use search_sorted::SearchSortedSide::{Left, Right};
-use search_sorted::{Packed, Rising, SearchResult, Width, write_number};
+use search_sorted::{NotRising, Packed, Rising, SearchResult, Width, write_number};
 use std::test::*;
 
 // Among these keys a needle has these answers, on the left and on the right.
@@ -11,26 +11,25 @@ fn answers(
     left: SearchResult,
     right: SearchResult,
 ) -> bool {
-    let mut keys = Rising::empty();
-    keys.load(Packed::new(width, bytes)).is_ok()
-        && keys.search_sorted(needle, Left) == left
-        && keys.search_sorted(needle, Right) == right
+    Rising::try_from(Packed::new(width, bytes)).is_ok_and(|keys| {
+        keys.search_sorted(needle, Left) == left && keys.search_sorted(needle, Right) == right
+    })
 }
 
-// The place where these numbers fall is answered, and the key 4 is kept.
+// The place where these numbers fall is answered, and the key 4 is found where it was.
 fn keeps_four(bytes: &[u8], place: usize) -> bool {
-    let mut keys = Rising::empty();
-    keys.load(Packed::new(Width::One, &[4])).is_ok()
-        && keys.load(Packed::new(Width::One, bytes)) == Err(place)
-        && keys.search_sorted(4, Left) == Found(0)
+    let four = Rising::try_from(Packed::new(Width::One, &[4]));
+    let refused = Rising::try_from(Packed::new(Width::One, bytes));
+    refused.is_err_and(|fall| fall == NotRising { place })
+        && four.is_ok_and(|keys| keys.search_sorted(4, Left) == Found(0))
 }
 
 // Among the keys 10, 20, 30, 40 and 50 from one place up to another, a needle has this answer on the left.
 fn part_answers(from: usize, to: usize, needle: u64, left: SearchResult) -> bool {
-    let mut keys = Rising::empty();
-    keys.load(Packed::new(Width::One, &[10, 20, 30, 40, 50]))
-        .is_ok()
-        && keys.part(from, to).search_sorted(needle, Left) == left
+    Rising::try_from(Packed::new(Width::One, &[10, 20, 30, 40, 50])).is_ok_and(|keys| keys
+        .part(from, to)
+        .search_sorted(needle, Left)
+        == left)
 }
 
 #[test]
@@ -100,7 +99,7 @@ fn keys_of_four_bytes(rt: HostRuntime) -> Result<(), Fail> {
 #[test]
 fn keys_of_eight_bytes(rt: HostRuntime) -> Result<(), Fail> {
     let mut keys = [0; 16];
-    assert!(rt; write_number(&mut keys, 1, u64::MAX));
+    assert!(rt; write_number(&mut keys, 1, u64::MAX).is_ok());
     assert!(rt;
         answers(Width::Eight, &keys, 0, Found(0), Found(1))
             && answers(Width::Eight, &keys, 1, NotFound(1), NotFound(1))

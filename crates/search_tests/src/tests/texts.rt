@@ -1,4 +1,4 @@
-use search_sorted::{SearchResult, SearchSortedSide};
+use search_sorted::{NoRoom, NotRising, SearchResult, SearchSortedSide, UnknownWidth};
 use std::alloc::Global;
 use std::process::Abort;
 use std::test::*;
@@ -25,6 +25,27 @@ fn answers_as_text(rt: HostRuntime) -> Result<(), Fail> {
 fn sides_as_text(rt: HostRuntime) -> Result<(), Fail> {
     side_is(&rt, rt.alloc(), SearchSortedSide::Left, "left")?;
     side_is(&rt, rt.alloc(), SearchSortedSide::Right, "right")
+}
+
+#[test]
+fn errors_as_text(rt: HostRuntime) -> Result<(), Fail> {
+    let heap = rt.alloc();
+    let unknown = UnknownWidth(3);
+    assert_eq!(rt;
+        format!(in heap; "{unknown}")?.as_str(),
+        "no width has 3 bytes"
+    );
+    let refused = NoRoom;
+    assert_eq!(rt;
+        format!(in heap; "{refused}")?.as_str(),
+        "no room for the number"
+    );
+    let fall = NotRising { place: 12 };
+    assert_eq!(rt;
+        format!(in heap; "{fall}")?.as_str(),
+        "the number at place 12 is not above the one before"
+    );
+    Ok(())
 }
 
 #[test]

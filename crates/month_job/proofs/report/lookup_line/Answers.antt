@@ -3,13 +3,6 @@ use Rattle.std.proofs.lemmas.Int.{to_z-of_z}
 use Rattle.month_job.specs.Reports.{lookup_text}
 use Rattle.month_job.proofs.report.lookup_line.Goals as goal
 
-pub returns-in-NoSuchRow : goal.returns-in-NoSuchRow
-returns-in-NoSuchRow c =
-    subst
-    (λ a. IfOk c.format.result (λ s. string_bytes s ≡ lookup_text c.args.row a))
-    (sym c.in-NoSuchRow.is)
-    c.format.ensures.ok
-
 pub returns-in-NotCorrected : goal.returns-in-NotCorrected
 returns-in-NotCorrected c =
     let f : SFits w64 c.in-NotCorrected.amount = search rules in

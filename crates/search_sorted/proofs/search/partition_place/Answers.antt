@@ -1,6 +1,6 @@
 use Rattle.std.proofs.Common.{◌/◌, arith}
 use Rattle.search_sorted.proofs.Orders.{side_before}
-use Rattle.search_sorted.proofs.Quarters.{narrowed_quarter, counted_next, counted_all}
+use Rattle.search_sorted.proofs.Quarters.{narrowed_quarter, counted_next}
 use Rattle.search_sorted.proofs.search.partition_place.Goals as goal
 
 pub loop-left-preserved : goal.loop-left-preserved
@@ -33,18 +33,4 @@ loop-k-preserved g c =
     c.loop-k.count
     c.goes_before.result
     c.goes_before.ensures
-    c.loop-k.invariant
-
-pub returns : goal.returns
-returns g c =
-    counted_all
-    _
-    (side_before g.S.IndexOrd.order _ _ c.args.side (g.S.IndexOrd.rising c.args.sequence.now))
-    _
-    c.loop-left.place
-    c.loop-left.left
-    c.loop-k.k
-    c.loop-k.count
-    (omega arith)
-    c.loop-left.invariant.1
     c.loop-k.invariant

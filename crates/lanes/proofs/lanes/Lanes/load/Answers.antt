@@ -1,43 +1,39 @@
-use Rattle.std.proofs.Common.{length, sym, refl, subst, inl, inr, arith}
-use Rattle.lanes.specs.LaneRules.{WrongTable}
-use Rattle.lanes.proofs.LaneOffsets.{tables_kept}
+use Rattle.std.proofs.Common.{◌≡◌, ◌+◌, length, sym, refl, ap, ◌∙◌, subst, inl, inr, arith}
+use Rattle.lanes.specs.LaneRules.{IsLaneCount, lane_total, WrongPlace, WrongTable, RightEntries}
+use Rattle.lanes.proofs.LaneOffsets.{wrong_table, right_table}
 use Rattle.lanes.proofs.lanes.Lanes.load.Goals as goal
 
-pub returns-in-Some : goal.returns-in-Some
-returns-in-Some g c =
+pub returns-in-Some-clause-judged : goal.returns-in-Some-clause-judged
+returns-in-Some-clause-judged g c =
     let t = c.args.tables.now in
-    let by = c.by-in-Some.ensures in
-    record {
-      judged = inr (
-        (λ place h. omega (arith, h.1)),
-        inr (
-          (λ place h. h.1 (c.is_lane_count.ensures.0 c.if-not-is_lane_count.false)),
-          inl (record {
-            why = by.reason;
-            who = by.part;
-            where_it_is = subst (λ p. WrongTable t.offsets.now t.entries.now t.rows t.lanes (length t.values.now) p) (sym by.place) c.in-Some.ensures;
-          }),
-        ),
-      );
-      holds = refl;
-    }
-
-pub invariant_of-self : goal.invariant_of-self
-invariant_of-self g c =
-    let right = c.in_default.ensures in
-    record {
-      few = omega arith;
-      counted = ∣ c.is_lane_count.ensures.0 c.if-not-is_lane_count.false ∣₁;
-      offset_count = right.offsets_length;
-      value_count = right.values_length;
-      right_offsets = right.right_offsets;
-      right_entries = right.right_entries;
-    }
+    let lanes = c.in_ok-lanes.lanes in
+    let by = c.wrong_table-in-Some.ensures in
+    let same : lanes.number ≡ t.lanes = c.in_ok-lanes.ensures.same in
+    let long : length t.offsets.now ≡ lane_total t.lanes t.rows + 1 = c.if-tables-offset_count.false ∙ ap (λ n. n + 1) (c.total-offset_count.ensures.is ∙ ap (λ n. lane_total n t.rows) same) in
+    let wrong = subst (λ n. WrongPlace t.offsets.now t.entries.now t.rows n c.in-Some.place) same c.in-Some.ensures in
+    inr (
+      (λ place h. omega (arith, h.1)),
+      inr (
+        (λ place h. h.1 (subst IsLaneCount same lanes.counted)),
+        inl (record {
+          why = by.reason;
+          who = by.part;
+          where_it_is = subst (WrongTable t.offsets.now t.entries.now t.rows t.lanes (length t.values.now)) (sym by.place) (wrong_table t.offsets.now t.entries.now t.rows t.lanes (length t.values.now) long c.if-tables.false c.in-Some.place wrong);
+        }),
+      ),
+    )
 
 pub returns : goal.returns
 returns g c =
     let t = c.args.tables.now in
+    let lanes = c.in_ok-lanes.lanes in
+    let same : lanes.number ≡ t.lanes = c.in_ok-lanes.ensures.same in
+    let long : length t.offsets.now ≡ lane_total t.lanes t.rows + 1 = c.if-tables-offset_count.false ∙ ap (λ n. n + 1) (c.total-offset_count.ensures.is ∙ ap (λ n. lane_total n t.rows) same) in
+    let right = subst (RightEntries t.offsets.now t.entries.now t.rows) same c.in_default.ensures.1 in
     record {
-      judged = ((λ place h. omega (arith, h.1)), ((λ place h. h.1 (c.is_lane_count.ensures.0 c.if-not-is_lane_count.false)), (tables_kept t.offsets.now t.entries.now t.rows t.lanes (length t.values.now) c.in_default.ensures, tt)));
-      holds = record { rows = refl; lanes = refl; offsets = refl; entries = refl; values = refl };
+      judged = (
+        (λ place h. omega (arith, h.1)),
+        ((λ place h. h.1 (subst IsLaneCount same lanes.counted)), (right_table t.offsets.now t.entries.now t.rows t.lanes (length t.values.now) long c.if-tables.false c.in_default.ensures.0 right, tt)),
+      );
+      holds = record { rows = refl; lanes = same; offsets = refl; entries = refl; values = refl };
     }

@@ -1,5 +1,5 @@
 use Rattle.runs.proofs.Dealing.{Dealt}
 use Rattle.runs.proofs.attempts.Run.attempt_all.Given as goal
 
-abbrev pub invariant-loop-i : goal.invariant-loop-i
-invariant-loop-i g l = Dealt (g.S.PatchSet.meaning l.set) l.initial.run l.run l.initial.entries l.entries l.initial.cells l.cells l.i l.at
+abbrev pub invariant-loop-entry : goal.invariant-loop-entry
+invariant-loop-entry g l = Dealt (g.S.PatchSet.meaning l.set) l.initial.run l.run l.initial.entries l.entries l.initial.cells l.cells l.entry-index l.at

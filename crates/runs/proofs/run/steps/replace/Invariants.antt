@@ -1,9 +1,14 @@
-use Rattle.std.proofs.Common.{◌-◌, ◌≤◌}
+use Rattle.std.proofs.Common.{◌≡◌, ℕ, ◌≤◌}
+use Rattle.patches.specs.Listed.{listed_from, to_come}
 use Rattle.runs.proofs.Partly.{Partly}
 use Rattle.runs.proofs.run.steps.replace.Given as goal
 
-abbrev pub invariant-loop-next : goal.invariant-loop-next
-invariant-loop-next g l = (l.start ≤ l.row) × (l.row ≤ l.end) × Partly (g.S.PatchSet.meaning l.set).patch l.start l.initial.cells l.row l.cells l.count
-
-abbrev pub decreases-loop-next : goal.decreases-loop-next
-decreases-loop-next g l = l.end - l.row
+-- the rows below one are gone through, and the patches from it on are still to come
+abbrev pub invariant-loop-row : goal.invariant-loop-row
+invariant-loop-row g l =
+    let m = g.S.PatchSet.meaning l.set in
+    (row : ℕ)
+    × (l.start ≤ row)
+    × (row ≤ l.end)
+    × (to_come g.S.PatchSet.meaning l.row-iterator ≡ listed_from m row)
+    × Partly m.patch l.start l.initial.cells row l.cells l.count

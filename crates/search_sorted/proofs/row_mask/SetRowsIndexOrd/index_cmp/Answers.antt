@@ -1,53 +1,29 @@
-use Rattle.std.proofs.Common.{sym, arith}
-use Rattle.search_sorted.proofs.RowMaskPlaces.{row_past, row_less, row_equal, row_greater, row_unset}
+use Rattle.std.proofs.Common.{◌≡◌, sym, ◌∙◌, arith}
+use Rattle.std.proofs.lemmas.Map.Lookups.{exact_unsigned}
+use Rattle.search_sorted.proofs.RowMaskPlaces.{row_past, row_equal, row_unset, row_ranked}
 use Rattle.search_sorted.proofs.row_mask.SetRowsIndexOrd.index_cmp.Goals as goal
-use Rattle.search_sorted.proofs.row_mask.SetRowsIndexOrd.index_cmp.Goals.{else-place-before-2-via-then-place-before-2+else-contains}
-use Rattle.search_sorted.proofs.row_mask.SetRowsIndexOrd.index_cmp.Goals.{else-place-before-2-via-else-place-before-2}
 
 pub returns-then-place-true_count : goal.returns-then-place-true_count
 returns-then-place-true_count c =
     let mask = c.args.self.now.mask in
-    let bytes = mask.bytes.now in
-    let needle = c.args.needle.now in
-    let total = c.true_count in
-    sym (row_past bytes mask.rows c.args.place needle total.result total.ensures (omega arith))
+    sym (row_past mask.bytes.now mask.rows c.args.place c.args.needle.now c.true_count.result c.true_count.ensures c.if-place-true_count.true)
 
-pub returns-then-place-before : goal.returns-then-place-before
-returns-then-place-before c =
+pub returns-in-Equal : goal.returns-in-Equal
+returns-in-Equal c =
     let mask = c.args.self.now.mask in
-    let bytes = mask.bytes.now in
-    let needle = c.args.needle.now in
-    let total = c.true_count in
-    let rank = c.rank-before in
-    sym (row_less bytes mask.rows c.args.place needle total.result total.ensures
-    (omega arith) rank.result rank.ensures (omega arith))
+    let same : c.args.place ≡ c.rank-before.result = exact_unsigned _ _ (sym c.cmp.ensures ∙ c.in-Equal.is) in
+    sym (row_equal mask.bytes.now mask.rows c.args.place c.args.needle.now c.true_count.result c.true_count.ensures c.if-place-true_count.false
+    c.rank-before.result c.rank-before.ensures same c.contains.result c.contains.ensures c.if-contains.true)
 
-pub returns-then-contains : goal.returns-then-contains
-returns-then-contains c =
+pub returns-in-Equal-2 : goal.returns-in-Equal-2
+returns-in-Equal-2 c =
     let mask = c.args.self.now.mask in
-    let bytes = mask.bytes.now in
-    let needle = c.args.needle.now in
-    let total = c.true_count in
-    let rank = c.rank-before in
-    let has = c.contains in
-    sym (row_equal bytes mask.rows c.args.place needle total.result total.ensures
-    (omega arith) rank.result rank.ensures (omega arith)
-    has.result has.ensures c.if-contains.true)
+    let same : c.args.place ≡ c.rank-before.result = exact_unsigned _ _ (sym c.cmp.ensures ∙ c.in-Equal.is) in
+    sym (row_unset mask.bytes.now mask.rows c.args.place c.args.needle.now c.true_count.result c.true_count.ensures c.if-place-true_count.false
+    c.rank-before.result c.rank-before.ensures (omega arith) c.contains.result c.contains.ensures c.if-contains.false)
 
-pub returns-else-place-before-2 : goal.returns-else-place-before-2
-returns-else-place-before-2 c =
+pub returns-in_default : goal.returns-in_default
+returns-in_default c =
     let mask = c.args.self.now.mask in
-    let bytes = mask.bytes.now in
-    let needle = c.args.needle.now in
-    let total = c.true_count in
-    let rank = c.rank-before in
-    elim c.else-place-before-2.branch [
-      | else-place-before-2-via-then-place-before-2+else-contains w ↦
-          sym (row_unset bytes mask.rows c.args.place needle total.result total.ensures
-          (omega arith) rank.result rank.ensures (omega arith)
-          w.contains.result w.contains.ensures w.if-contains.false)
-      | else-place-before-2-via-else-place-before-2 w ↦
-          sym (row_greater bytes mask.rows c.args.place needle total.result total.ensures
-          (omega arith) rank.result rank.ensures
-          (omega (arith, w.if-place-before-2.false)))
-    ]
+    sym (row_ranked mask.bytes.now mask.rows c.args.place c.args.needle.now c.true_count.result c.true_count.ensures c.if-place-true_count.false
+    c.rank-before.result c.rank-before.ensures c.cmp.result c.cmp.ensures c.in_default.not-Equal)

@@ -1,33 +1,34 @@
-use Rattle.std.proofs.Common.{◌+◌, arith, rules}
-use Rattle.lanes.specs.LaneRules.{lane_of}
-use Rattle.lanes.proofs.LaneCounts.{lanes_pos}
+use Rattle.std.proofs.Common.{◌≡◌, ℕ, ◌+◌, ◌<◌, ◌%◌, Some, None, length, subst, ◌∙◌, arith, rules}
+use Rattle.lanes.specs.LaneLoads.{First}
+use Rattle.lanes.specs.LaneMeaning.{patch_in, IsAt}
 use Rattle.lanes.proofs.LaneAnswers.{lane_there, begin_within, found_patch, missed_patch}
 use Rattle.lanes.proofs.lanes.sets.LanesPatchSet.find.Goals as goal
 
-pub nonzero_rem-lane : goal.nonzero_rem-lane
-nonzero_rem-lane g c = let h = lanes_pos c.args.self.now.lanes c.args.self.now.counted in search rules
+pub place_in-requires-clause-lane : goal.place_in-requires-clause-lane
+place_in-requires-clause-lane g c = omega (arith, c.lane_of-lane.ensures.is, lane_there c.args.self.now c.args.r c.if-r-self.false)
 
-pub place_in-requires : goal.place_in-requires
-place_in-requires g c =
+pub place_in-requires-clause-places : goal.place_in-requires-clause-places
+place_in-requires-clause-places g c =
     let s = c.args.self.now in
-    let there = lane_there s c.args.r c.if-r-self.false in
-    record { lane = there; places = begin_within s (lane_of s.lanes c.args.r + 1) there }
+    begin_within s (c.lane_of-lane.result + 1) (omega (arith, c.lane_of-lane.ensures.is, lane_there s c.args.r c.if-r-self.false))
 
-pub offset_bounds-values-place : goal.offset_bounds-values-place
-offset_bounds-values-place g c =
+pub returns-in_err-place : goal.returns-in_err-place
+returns-in_err-place g c =
     let s = c.args.self.now in
-    let there = lane_there s c.args.r c.if-r-self.false in
-    omega (arith, s.value_count, c.in-Some.ensures.0, begin_within s (lane_of s.lanes c.args.r + 1) there)
+    c.from_residual.ensures ∙ missed_patch s c.args.r c.if-r-self.false (subst (λ (lane : ℕ). First (IsAt s.places.offsets.now s.places.entries.now lane (c.args.r % 1024)) None) c.lane_of-lane.ensures.is c.in_err-place.ensures)
 
-pub bounds-values-place : goal.bounds-values-place
-bounds-values-place g c =
+pub offset_bounds-self-place : goal.offset_bounds-self-place
+offset_bounds-self-place g c =
     let s = c.args.self.now in
-    let there = lane_there s c.args.r c.if-r-self.false in
-    omega (arith, s.value_count, c.in-Some.ensures.0, begin_within s (lane_of s.lanes c.args.r + 1) there)
+    let h : c.in_ok-place.place < length s.values.now = omega (arith, s.value_count, c.in_ok-place.ensures.0, begin_within s (c.lane_of-lane.result + 1) (omega (arith, c.lane_of-lane.ensures.is, lane_there s c.args.r c.if-r-self.false))) in
+    search rules
 
-pub returns-in-Some : goal.returns-in-Some
-returns-in-Some g c =
-    found_patch c.args.self.now c.args.r c.in-Some.place c.index-values-place.result c.if-r-self.false c.in-Some.ensures c.index-values-place.is
+pub bounds-self-place : goal.bounds-self-place
+bounds-self-place g c =
+    let s = c.args.self.now in
+    omega (arith, s.value_count, c.in_ok-place.ensures.0, begin_within s (c.lane_of-lane.result + 1) (omega (arith, c.lane_of-lane.ensures.is, lane_there s c.args.r c.if-r-self.false)))
 
-pub returns-in-None : goal.returns-in-None
-returns-in-None g c = missed_patch c.args.self.now c.args.r c.if-r-self.false c.in-None.ensures
+pub returns : goal.returns
+returns g c =
+    let s = c.args.self.now in
+    subst (λ v. Some v ≡ patch_in s c.args.r) c.index-self-place.is (found_patch s c.args.r c.in_ok-place.place c.index-self-place.result c.if-r-self.false (subst (λ (lane : ℕ). First (IsAt s.places.offsets.now s.places.entries.now lane (c.args.r % 1024)) (Some c.in_ok-place.place)) c.lane_of-lane.ensures.is c.in_ok-place.ensures) c.index-self-place.is)

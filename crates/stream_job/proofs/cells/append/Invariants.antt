@@ -1,9 +1,0 @@
-use Rattle.std.proofs.Common.{◌≡◌, ◌+◌, vec_items, vec_len}
-use Rattle.stream_job.specs.Cells.{CellsFrom, SameBelow}
-use Rattle.stream_job.proofs.cells.append.Given as goal
-
-abbrev pub invariant-loop-place : goal.invariant-loop-place
-invariant-loop-place l =
-    (vec_len l.cells ≡ vec_len l.initial.cells + l.place)
-    × CellsFrom (vec_len l.initial.cells) l.place (vec_items l.cells) l.bytes
-    × SameBelow (vec_len l.initial.cells) (vec_items l.cells) (vec_items l.initial.cells)
