@@ -1,6 +1,5 @@
 -- The four questions over sound tables: which value a row has, how many patched rows lie before it, and which is next.
-use Rattle.std.proofs.Common.{◌≡◌, ℕ, zero, suc, ◌+◌, ◌-◌, ◌*◌, ◌/◌, ◌%◌, ◌<◌, ◌≤◌, true, ltb, length, get_or, take, drop, is_some, Some, None, Option, count_by, sym, ap, ◌∙◌, subst, inl, inr, mul-le-mul_right, mod-lt, zero-mul, add-mul, arith}
-use native.Mathlib.Nat.{mod-add-div'}
+use Rattle.std.proofs.Common.{◌≡◌, ℕ, zero, suc, ◌+◌, ◌-◌, ◌*◌, ◌/◌, ◌%◌, ◌<◌, ◌≤◌, true, ltb, length, get_or, take, drop, is_some, Some, None, Option, count_by, sym, ap, ◌∙◌, subst, inl, inr, mul-le-mul_right, mod-lt, zero-mul, arith}
 use Rattle.std.proofs.lemmas.List.{length-take, length-drop, get_or-take, get_or-drop}
 use Rattle.std.proofs.lemmas.Bool.{cases_lt, cond-true, lt-ltb, false≢true}
 use Rattle.patches.specs.Assignments.{patches_below, Next}
@@ -9,7 +8,7 @@ use Rattle.patches.specs.Indices.{count_under}
 use Rattle.patches.specs.SeekLaws.{seek_none_from}
 use Rattle.patches.proofs.Counts.{one_some, one_none, count_past}
 use Rattle.lanes.specs.declared.lanes.Lanes.{Lanes}
-use Rattle.lanes.specs.LaneRules.{lane_of, begin_of, LiesIn}
+use Rattle.lanes.specs.LaneRules.{lane_of, begin_of}
 use Rattle.lanes.specs.LaneSets.{in_lane}
 use Rattle.lanes.specs.LaneLoads.{First}
 use Rattle.lanes.specs.LaneMeaning.{patch_in, lane_meaning, begin_of_chunk, entries_of_chunk, IsAt, Least, NextUnder}
@@ -192,37 +191,6 @@ module _ {V : Type 0} (l : Lanes V) where
       let z : 1024 * (k / 1024) + k % 1024 ≡ k = omega arith in
       ap (patch_in l) (sym z) ∙ place_unpatched (k / 1024) (k % 1024) (omega arith) (λ j f t e. omega arith)
 
-  -- the chunk of a lane's place
-  module _ (place lane : ℕ) (lies : LiesIn l.places.offsets.now l.places.entries.now lane place) where
-    chunk_lanes : lane / l.places.lanes.number * l.places.lanes.number ≤ lane
-    chunk_lanes = omega (arith, mod-add-div' lane l.places.lanes.number)
-
-    lane_below : lane < (lane / l.places.lanes.number + 1) * l.places.lanes.number
-    lane_below =
-        let n : ℕ = l.places.lanes.number in
-        omega (arith, mod-add-div' lane n, mod-lt lane (lanes_some n l.places.lanes.counted), add-mul (lane / n) 1 n)
-
-    pub chunk_low : begin_of_chunk l (lane / l.places.lanes.number) ≤ place
-    chunk_low = omega (arith, lies.1, begin_mono l.places.offsets.now l.places.entries.now l.right_offsets (lane / l.places.lanes.number * l.places.lanes.number) lane chunk_lanes (omega (arith, lies.0)))
-
-    pub chunk_among : lane / l.places.lanes.number < count_of_chunks 0 l.places.rows
-    chunk_among =
-        elim (cases_lt (lane / l.places.lanes.number) (count_of_chunks 0 l.places.rows)) [
-          | inl h ↦ h
-          | inr h ↦ absurd (omega (arith, l.places.offset_count, lies.0, chunk_lanes, mul-le-mul_right l.places.lanes.number h))
-        ]
-
-    pub chunk_high : place < begin_of_chunk l (lane / l.places.lanes.number + 1)
-    chunk_high = omega (arith, lies.2, begin_mono l.places.offsets.now l.places.entries.now l.right_offsets (lane + 1) ((lane / l.places.lanes.number + 1) * l.places.lanes.number) (omega (arith, lane_below)) (chunk_fits (lane / l.places.lanes.number + 1) (omega (arith, chunk_among))))
-
-    -- it is not before a chunk that begins at the place
-    pub chunk_after : (c : ℕ) → c ≤ count_of_chunks 0 l.places.rows → place ≡ begin_of_chunk l c → c ≤ lane / l.places.lanes.number
-    chunk_after c h e =
-        elim (cases_lt (lane / l.places.lanes.number) c) [
-          | inl q ↦ absurd (omega (arith, chunk_high, chunk_mono (lane / l.places.lanes.number + 1) c (omega arith) h))
-          | inr q ↦ q
-        ]
-
   module _ (r : ℕ) (within : r < l.places.rows) (none : NextUnder (patch_in l) (1024 * (r / 1024) + r % 1024) (1024 * (r / 1024 + 1)) None) where
     -- no later row has a patch where no entry stands after the row's chunk
     pub next_none : length l.places.entries.now ≤ begin_of_chunk l (r / 1024 + 1) → Next (patch_in l) r None
@@ -238,11 +206,11 @@ module _ {V : Type 0} (l : Lanes V) where
 
     -- the next is in the first later chunk that has an entry
     module _ (place d : ℕ) (is : place ≡ begin_of_chunk l (r / 1024 + 1)) (first : r / 1024 + 1 ≤ d) (chunk : d < count_of_chunks 0 l.places.rows) (low : begin_of_chunk l d ≤ place) (high : place < begin_of_chunk l (d + 1)) where
-      next_in_chunk : (q : Option ℕ) → NextUnder (patch_in l) (1024 * d + 0) (1024 * (d + 1)) q → Next (patch_in l) r q
-      next_in_chunk None non =
+      pub next_later : (q : Option ℕ) → NextUnder (patch_in l) (1024 * d + 0) (1024 * (d + 1)) q → Next (patch_in l) r q
+      next_later None non =
           let at = place_patched d place chunk low high in
           absurd (false≢true (sym (ap is_some (non (1024 * d + get_or l.places.entries.now place 0) (omega arith) (omega (arith, place_low d place chunk low high)))) ∙ at))
-      next_in_chunk (Some q) w = (
+      next_later (Some q) w = (
         omega (arith, w.0),
         w.1,
         (λ k a b.
@@ -255,7 +223,3 @@ module _ {V : Type 0} (l : Lanes V) where
                   ]
             ]),
       )
-
-    pub next_later : (place lane : ℕ) → place ≡ begin_of_chunk l (r / 1024 + 1) → LiesIn l.places.offsets.now l.places.entries.now lane place → (q : Option ℕ) → NextUnder (patch_in l) (1024 * (lane / l.places.lanes.number) + 0) (1024 * (lane / l.places.lanes.number + 1)) q → Next (patch_in l) r q
-    next_later place lane is lies =
-        next_in_chunk place (lane / l.places.lanes.number) is (chunk_after place lane lies (r / 1024 + 1) (omega (arith, row_in r within)) is) (chunk_among place lane lies) (chunk_low place lane lies) (chunk_high place lane lies)

@@ -1,8 +1,6 @@
 -- Offsets that break no rule: they begin at 0, never fall, and end at the number of entries; so a place lies in one lane.
-use Rattle.std.proofs.Common.{◌≡◌, ℕ, zero, suc, ◌+◌, ◌-◌, ◌<◌, ◌≤◌, true, false, leb, List, length, Some, None, Option, MatchOption, refl, subst, inl, inr, arith}
-use Rattle.std.specs.List.Sorted.{IsPartitionPoint, IsPartitionedBy}
-use Rattle.std.proofs.lemmas.Bool.{cases_eq, cases_lt, leb-true, leb-false}
-use Rattle.std.proofs.lemmas.List.Sorted.{IsPartitionedBy-leb, IsNonDecreasingBy-from_default}
+use Rattle.std.proofs.Common.{◌≡◌, ℕ, zero, suc, ◌+◌, ◌-◌, ◌<◌, ◌≤◌, List, length, Some, None, Option, MatchOption, refl, subst, inl, inr, arith}
+use Rattle.std.proofs.lemmas.Bool.{cases_eq, cases_lt}
 use Rattle.lanes.specs.LaneRules.{BreaksIn, lane_total, begin_of, WrongLength, RightOffsets, LiesIn, WrongEntry, WrongPlace, WrongTable, RightEntries}
 use Rattle.lanes.specs.LaneLoads.{First, WrongIn}
 
@@ -56,25 +54,6 @@ module _ (offsets entries : List ℕ) (right : RightOffsets offsets entries) whe
               | inr q ↦ omega arith
             ]
       ]
-
-  -- the offsets up to a place come first
-  pub lane_parted : (place : ℕ) → IsPartitionedBy (λ b. leb b place) offsets
-  lane_parted place = IsPartitionedBy-leb (λ b. b) offsets place (IsNonDecreasingBy-from_default (λ b. b) offsets 0 begin_mono)
-
-  -- a place lies in the last lane that begins no later
-  pub lane_point : (place i : ℕ) → place < length entries → 0 < length offsets → i ≤ length offsets → IsPartitionPoint (λ b. leb b place ≡ true) (λ b. leb b place ≡ false) offsets i → (1 ≤ i) × LiesIn offsets entries (i - 1) place
-  lane_point place i h some top point =
-      let pos : 0 < i = elim (cases_lt 0 i) [
-        | inl l ↦ l
-        | inr l ↦ absurd (omega (arith, leb-false (begin_of offsets entries 0) place (point.1 0 0 (omega arith) some), begin_first some))
-      ] in
-      let low : begin_of offsets entries (i - 1) ≤ place = leb-true (begin_of offsets entries (i - 1)) place (point.0 (i - 1) 0 (omega arith) (omega arith)) in
-      let e : i - 1 + 1 ≡ i = omega arith in
-      let in-offsets : i < length offsets = elim (cases_lt i (length offsets)) [
-        | inl l ↦ l
-        | inr l ↦ absurd (omega (arith, low, begin_last (i - 1) (omega arith)))
-      ] in
-      (pos, (omega arith, low, rw e (leb-false (begin_of offsets entries i) place (point.1 i 0 (omega arith) in-offsets))))
 
   module _ (rows lanes lane : ℕ) (there : lane + 1 < length offsets) where
     -- an entry that is wrong in its lane is wrong

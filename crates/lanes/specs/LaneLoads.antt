@@ -1,6 +1,5 @@
 -- What loading lane tables answers, and what the lanes then hold.
-use Rattle.std.specs.Prelude.{◌≡◌, ℕ, ◌+◌, ◌<◌, ◌≤◌, List, length, Some, None, Ok, Err, Option, Result}
-use Rattle.patches.specs.declared.refusal.Refusal.{Refusal}
+use Rattle.std.specs.Prelude.{◌≡◌, ℕ, ◌+◌, ◌<◌, ◌≤◌, List, length, Some, None, Option}
 use Rattle.lanes.specs.declared.lanes.Lanes.{Lanes}
 use Rattle.lanes.specs.declared.lanes.LaneTables.{LaneTables}
 use Rattle.lanes.specs.LaneRules.{begin_of, BreaksIn}

@@ -9,8 +9,8 @@ mod stream;
 use files::{read_text, say, stop};
 use month_job::job::{Job, JobForm, parse};
 use month_job::request::{Request, UsageError, read_request};
+use std::env;
 use std::process::ExitCode;
-use std::{env, io};
 use steps::Month;
 
 /// That a run ended early. What was wrong is printed by then.
@@ -24,11 +24,6 @@ the one up to the other are corrected and written; where it has `lanes`, the siz
   --all   show every corrected cell, and not only the first ten and the last three
 Amounts are in minor units. Paths in the job are taken from the current folder.";
 
-/// The words of the command line.
-fn read_words(rt: &HostRuntime) -> io::Result<Vec<String>> {
-    Ok(env::args(rt)?.collect(rt.alloc())?)
-}
-
 /// Reads the job file.
 fn read_job(rt: &HostRuntime, file: &str) -> Result<Job, Stopped> {
     let text = read_text(rt, file)?;
@@ -37,8 +32,20 @@ fn read_job(rt: &HostRuntime, file: &str) -> Result<Job, Stopped> {
 
 /// Does what the command line asks for.
 fn run(rt: &HostRuntime) -> Result<(), Stopped> {
-    let words = read_words(rt).map_err(|error| stop(rt, "the command line", error))?;
-    match read_request(&words) {
+    let args = env::args(rt).map_err(|error| stop(rt, "the command line", error))?;
+    let heap = rt.alloc();
+    // the program's name, a job's file and an option; a fourth word tells that there are too many
+    let mut words = [
+        String::new(heap),
+        String::new(heap),
+        String::new(heap),
+        String::new(heap),
+    ];
+    let count = args.len().min(words.len());
+    for (place, word) in words.iter_mut().zip(args) {
+        *place = word;
+    }
+    match read_request(&words[..count]) {
         Ok(Some(Request { file, all })) => {
             let job = read_job(rt, file)?;
             let month = Month {

@@ -13,41 +13,33 @@ use runs::attempts::{Attempt, AttemptError, Entry, Run};
 use runs::run::ClosedRun;
 use stream_job::work::{block_count, check_accepted, next_correction, plan};
 
-/// A run that is ended where it is let go: one that is open then is abandoned.
-struct Held(Run);
+/// Ends a run that is not to go on.
+fn end(run: Run) {
+    match run {
+        Run::Open(open) => open.abandon(),
+        Run::Closed(_closed) => {}
+        Run::Unopened | Run::Abandoned => {}
+    }
+}
 
-impl Drop for Held {
-    fn drop(self) {
-        let Held(run) = self;
-        match run {
-            Run::Open(open) => open.abandon(),
-            Run::Closed(_closed) => {}
-            Run::Unopened | Run::Abandoned => {}
+/// A run with an answer that it waited for. Where there is none the run has ended.
+fn go_on<T>(run: Run, answer: Result<T, Stopped>) -> Result<(Run, T), Stopped> {
+    match answer {
+        Ok(answer) => Ok((run, answer)),
+        Err(stopped) => {
+            end(run);
+            Err(stopped)
         }
     }
 }
 
-impl Held {
-    /// Makes attempts with the run, as `Run::attempt_all` does.
-    fn attempt_all<S: PatchSet<Value = i64>>(
-        self,
-        set: &S,
-        entries: &mut [Entry],
-        cells: &mut [i64],
-    ) -> Held {
-        let Held(run) = self;
-        Held(run.attempt_all(set, entries, cells))
-    }
-
-    /// The run where it is closed.
-    fn closed(self) -> Option<ClosedRun> {
-        let Held(run) = self;
-        match run {
-            Run::Closed(closed) => Some(closed),
-            other => {
-                drop(Held(other));
-                None
-            }
+/// What a closed run tells. A run that is not closed has ended.
+fn closed(run: Run) -> Option<ClosedRun> {
+    match run {
+        Run::Closed(closed) => Some(closed),
+        other => {
+            end(other);
+            None
         }
     }
 }
@@ -103,14 +95,15 @@ impl<'a, S: PatchSet<Value = i64>> Stream<'a, S> {
         }
     }
 
-    /// Makes one attempt that takes no cells.
-    fn attempt(&self, run: Held, attempt: Attempt) -> Result<Held, Stopped> {
+    /// Makes one attempt that takes no cells. Where it is not accepted, the run has ended.
+    fn attempt(&self, run: Run, attempt: Attempt) -> Result<Run, Stopped> {
         let mut entries = [Entry {
             attempt,
             outcome: Err(AttemptError::NotMade),
         }];
         let run = run.attempt_all(self.set, &mut entries, &mut []);
-        check_accepted(&entries).map_err(|error| self.month.stop(error))?;
+        let accepted = check_accepted(&entries).map_err(|error| self.month.stop(error));
+        let (run, ()) = go_on(run, accepted)?;
         Ok(run)
     }
 
@@ -183,24 +176,22 @@ impl<'a, S: PatchSet<Value = i64>> Stream<'a, S> {
         Ok(further)
     }
 
-    /// Takes an open run through all its blocks.
-    fn go_through(
-        &self,
-        opened: Held,
-        output: &mut Output<'_>,
-    ) -> Result<(Held, Progress), Stopped> {
-        let mut run = opened;
+    /// Takes an open run through all its blocks. Where something stops it, the run has ended.
+    fn go_through(&self, opened: Run, output: &mut Output<'_>) -> Result<(Run, Progress), Stopped> {
         let mut progress = Progress {
             rows: 0,
             before: 0,
             after: 0,
         };
         let Month { rt, job, .. } = self.month;
-        let mut history = History::from_row(rt, &job.history, self.first)?;
+        let history = History::from_row(rt, &job.history, self.first);
+        let (mut run, mut history) = go_on(opened, history)?;
         for block in 0..block_count(self.phase, self.set.rows()) {
-            let mut part = self.read_part(block, &mut history, progress.rows)?;
-            run = run.attempt_all(self.set, &mut part.entries, &mut part.cells);
-            progress = self.finish_part(&part, output, progress)?;
+            let part = self.read_part(block, &mut history, progress.rows);
+            let (held, mut part) = go_on(run, part)?;
+            let stepped = held.attempt_all(self.set, &mut part.entries, &mut part.cells);
+            let further = self.finish_part(&part, output, progress);
+            (run, progress) = go_on(stepped, further)?;
         }
         Ok((run, progress))
     }
@@ -231,12 +222,11 @@ impl<'a, S: PatchSet<Value = i64>> Stream<'a, S> {
             rows: self.set.rows(),
             phase: self.phase,
         };
-        let opened = self.attempt(Held(Run::new()), opening)?;
+        let opened = self.attempt(Run::new(), opening)?;
         let (through, progress) = self.go_through(opened, output)?;
-        let closed = self
-            .attempt(through, Attempt::Close)?
-            .closed()
-            .ok_or_else(|| self.month.stop("the run is not closed"))?;
+        let closed = closed(self.attempt(through, Attempt::Close)?).ok_or_else(|| self
+            .month
+            .stop("the run is not closed"))?;
         output.sync()?;
         self.close(&closed, progress)
     }

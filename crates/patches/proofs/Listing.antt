@@ -1,8 +1,8 @@
 -- What the list of an assignment's patched rows has, and where.
-use Rattle.std.proofs.Common.{◌≡◌, ℕ, zero, suc, ◌+◌, ◌-◌, ◌<◌, ◌≤◌, List, [], ◌∷◌, length, is_some, Some, None, sym, refl, ap, ◌∙◌, inl, inr, arith}
-use Rattle.std.proofs.lemmas.Bool.{cases_lt}
+use Rattle.std.proofs.Common.{◌≡◌, ℕ, zero, suc, ◌+◌, ◌-◌, ◌<◌, ◌≤◌, List, [], ◌∷◌, length, map, true, is_some, Some, None, sym, refl, ap, ◌∙◌, inl, inr, arith}
+use Rattle.std.proofs.lemmas.Bool.{cases_lt, false≢true}
 use Rattle.patches.specs.Assignments.{Patch, Assignment, patches_below, one, NoneFrom}
-use Rattle.patches.specs.Listed.{with_patch, listed, listed_from}
+use Rattle.patches.specs.Listed.{with_patch, listed, listed_from, row_of, rows_listed_from}
 use Rattle.patches.proofs.Counts.{count_more, count_past, row_within}
 
 -- the first of the patched rows among n rows from one on, and those after it
@@ -132,3 +132,50 @@ module _ {V : Type 0} (m : Assignment V) where
         let z : m.rows - row ≡ 0 = omega arith in
         rw z (omega (arith, count_past m.patch m.rows row m.past ge))
   ]
+
+-- the first of the patched rows alone from one on, and those after it
+pub record RowFirst {V : Type 0} (m : Assignment V) (row first : ℕ) (others : List ℕ) : Type 0 where
+  pub low : row ≤ first
+  pub high : first < m.rows
+  pub patched : is_some (m.patch first) ≡ true
+  pub none : NoneFrom m.patch row first
+  pub rest : others ≡ rows_listed_from m (first + 1)
+
+module _ {V : Type 0} (m : Assignment V) where
+  -- where no row from one on has a patch there is none in the list
+  pub rows_none : (row : ℕ) → ((k : ℕ) → row ≤ k → m.patch k ≡ None) → rows_listed_from m row ≡ []
+  rows_none row none = ap (map row_of) (listed_none m row none)
+
+  some_row : (row q : ℕ) (o : Patch V) → m.patch q ≡ o → is_some o ≡ true → row ≤ q → NoneFrom m.patch row q → rows_listed_from m row ≡ q ∷ rows_listed_from m (q + 1)
+  some_row row q None is some low none = absurd (false≢true some)
+  some_row row q (Some v) is some low none = ap (map row_of) (listed_some m row q v low none is)
+
+  -- the next row with a patch comes first in the list
+  pub rows_some : (row q : ℕ) → row ≤ q → NoneFrom m.patch row q → is_some (m.patch q) ≡ true → rows_listed_from m row ≡ q ∷ rows_listed_from m (q + 1)
+  rows_some row q low none some = some_row row q (m.patch q) refl some low none
+
+  first_row : (row q : ℕ) (others : List ℕ) (items : List (ℕ × V)) → listed_from m row ≡ items → map row_of items ≡ q ∷ others → RowFirst m row q others
+  first_row row q others [] is e = absurd (let z : ◌≡◌ {A = ℕ} 0 1 = cc in omega arith)
+  first_row row q others (item ∷ rest) is e =
+      let w = listed_first m row {items = listed_from m row} {item = item} {others = rest} refl is in
+      let same : item.0 ≡ q = cc in
+      let left : map row_of rest ≡ others = cc in
+      rw (← same) record {
+        low = w.low;
+        high = w.high;
+        patched = ap is_some w.patched;
+        none = w.none;
+        rest = sym left ∙ ap (map row_of) w.rest;
+      }
+
+  -- what comes first in the list is the next row with a patch, and the others are those from the row after it on
+  pub rows_first : (row : ℕ) {rows : List ℕ} {first : ℕ} {others : List ℕ} → rows ≡ rows_listed_from m row → rows ≡ first ∷ others → RowFirst m row first others
+  rows_first row {rows} {first} {others} are e = first_row row first others (listed_from m row) refl (sym are ∙ e)
+
+  no_row : (row : ℕ) (items : List (ℕ × V)) → listed_from m row ≡ items → map row_of items ≡ [] → (k : ℕ) → row ≤ k → m.patch k ≡ None
+  no_row row [] is e = listed_empty m row {items = listed_from m row} refl is
+  no_row row (item ∷ rest) is e = absurd (let z : ◌≡◌ {A = ℕ} 0 1 = cc in omega arith)
+
+  -- where the list is empty no row from one on has a patch
+  pub rows_empty : (row : ℕ) {rows : List ℕ} → rows ≡ rows_listed_from m row → rows ≡ [] → (k : ℕ) → row ≤ k → m.patch k ≡ None
+  rows_empty row {rows} are e = no_row row (listed_from m row) refl (sym are ∙ e)

@@ -126,12 +126,13 @@ fn goes_before<S: IndexOrd>(
 ) -> bool
     ensures { result ≡ side_test S.IndexOrd.order (S.IndexOrd.keys sequence.now) needle.now side place }
 {
-    sequence
-        .index_cmp(place, needle)
-        .is_some_and(|order| match side {
-            SearchSortedSide::Left => order.is_lt(),
-            SearchSortedSide::Right => order.is_le(),
-        })
+    let Some(order) = sequence.index_cmp(place, needle) else {
+        return false;
+    };
+    match side {
+        SearchSortedSide::Left => order.is_lt(),
+        SearchSortedSide::Right => order.is_le(),
+    }
 }
 
 // Whether the key at a place equals the needle; none does past the end.

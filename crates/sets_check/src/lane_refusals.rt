@@ -22,17 +22,20 @@ fn sound() -> LaneTables<'static, i64> {
     }
 }
 
-// Loads these tables, of which the name says what is wrong, and says what the lanes hold: where they are refused, sound
-// tables are still there.
+// Loads these tables, of which the name says what is wrong, and says what the lanes hold: they held sound tables before,
+// and where these are refused they still do.
 fn load_case(
     rt: &HostRuntime,
     name: &str,
     tables: &LaneTables<'static, i64>,
 ) -> anyhow::Result<()> {
-    let sound = sound();
-    let (lanes, outcome) = match Lanes::load(tables) {
-        Ok(lanes) => (lanes, Ok(())),
-        Err(refusal) => (Lanes::load(&sound).unwrap_or(Lanes::empty()), Err(refusal)),
+    let mut lanes = Lanes::load(&sound()).unwrap_or(Lanes::empty());
+    let outcome = match Lanes::load(tables) {
+        Ok(loaded) => {
+            lanes = loaded;
+            Ok(())
+        }
+        Err(refusal) => Err(refusal),
     };
     shown::outcome(rt, name, outcome)?;
     let rows = lanes.rows();

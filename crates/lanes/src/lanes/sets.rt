@@ -1,11 +1,11 @@
 ghost use Rattle.std.specs.Prelude.{◌≡◌, ◌+◌, ◌*◌, ◌<◌, ◌≤◌, length, count_by, nat_lt, slice_index};
 ghost use Rattle.patches.specs.Chunks.{count_of_chunks};
-ghost use Rattle.lanes.specs.LaneRules.{LiesIn};
 ghost use Rattle.lanes.specs.LaneLoads.{First};
 ghost use Rattle.lanes.specs.LaneMeaning.{lane_meaning, patch_in, begin_of_chunk, entries_of_chunk, IsAt, Least, NextUnder};
 
 use crate::lanes::Lanes;
 use crate::lanes::places::Places;
+use patches::chunks::chunk_total;
 use patches::patch_set::PatchSet;
 
 impl Places<'_> {
@@ -24,10 +24,14 @@ impl Places<'_> {
 fn count_below(entries: &[u16], bound: u64) -> usize
     ensures { result ≡ count_by (λ entry. nat_lt entry bound) entries.now }
 {
-    entries
-        .iter()
-        .filter(|entry| (**entry as u64) < bound)
-        .count()
+    // A loop: `filter` and `count` take more than twice the time.
+    let mut count = 0;
+    for entry in entries {
+        if (*entry as u64) < bound {
+            count += 1;
+        }
+    }
+    count
 }
 
 // The least of some entries that is not below a bound, or none.
@@ -60,15 +64,26 @@ impl<'a, V> Lanes<'a, V> {
         &self.places.entries[from..to]
     }
 
-    // The number of the lane in which a place lies.
-    fn lane_at(&self, place: usize) -> usize
-        requires { place < length self.now.places.entries.now }
-        ensures { LiesIn self.now.places.offsets.now self.now.places.entries.now result place }
+    // The chunk in which a place lies, at or after a chunk that begins at or before the place. It goes by halves through
+    // the chunks alone: `partition_point` over the offsets goes through all lanes, and took more than twice the time.
+    fn chunk_of(&self, first: u64, place: usize) -> u64
+        requires first { first < count_of_chunks 0 self.now.places.rows }
+        requires begun { begin_of_chunk self.now first ≤ place }
+        requires within { place < length self.now.places.entries.now }
+        ensures there { (first ≤ result) × (result < count_of_chunks 0 self.now.places.rows) }
+        ensures holds { (begin_of_chunk self.now result ≤ place) × (place < begin_of_chunk self.now (result + 1)) }
     {
-        self.places
-            .offsets
-            .partition_point(|begin| *begin as usize <= place)
-            - 1
+        let mut low = first;
+        let mut high = chunk_total(0, self.places.rows);
+        while high - low > 1 {
+            let middle = low + (high - low) / 2;
+            if self.chunk_begin(middle) <= place {
+                low = middle;
+            } else {
+                high = middle;
+            }
+        }
+        low
     }
 
     // The least patched row of a chunk that is not below a place in the chunk, or none.
@@ -113,7 +128,7 @@ impl<'a, V: Copy> PatchSet for Lanes<'a, V> {
         if place >= self.places.entries.len() {
             return None;
         }
-        let later = self.lane_at(place) as u64 / self.places.lanes.number;
+        let later = self.chunk_of(chunk + 1, place);
         self.next_in(later, 0)
     }
 

@@ -1,6 +1,7 @@
 use crate::tests::files::{chunked, entries_are, has_nothing, holds_plain, plain, rows_are};
 use patches::column::Column;
 use patches::corrections::Corrections;
+use patches::iter::{patched_rows_from, patches_from};
 use std::process::Abort;
 use std::test::Fail;
 
@@ -48,4 +49,20 @@ fn with_chunk_data(rt: HostRuntime) -> Result<(), Fail> {
             chunked(plain(), 8, wide, 0),
         ],
     )
+}
+
+#[test]
+fn from_patch_to_patch(rt: HostRuntime) -> Result<(), Fail> {
+    let mut column: Column<i64> = Column::empty();
+    column.load(&plain())?;
+    let mut patches = patches_from(&column, 1023);
+    assert_eq!(rt; patches.next(), Some((1023, 20)));
+    assert_eq!(rt; patches.next(), Some((1024, 30)));
+    assert_eq!(rt; patches.next(), Some((2050, 40)));
+    assert_eq!(rt; patches.next(), None);
+    let mut rows = patched_rows_from(&column, 4);
+    assert_eq!(rt; (rows.next(), rows.next()), (Some(1023), Some(1024)));
+    assert_eq!(rt; (rows.next(), rows.next()), (Some(2050), None));
+    assert_eq!(rt; patched_rows_from(&column, 3000).next(), None);
+    Ok(())
 }

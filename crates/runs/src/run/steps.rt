@@ -7,7 +7,7 @@ ghost use Rattle.runs.specs.Steps.{open_rules, step_rules, Replaced, Begun, Step
 
 use crate::run::{ClosedRun, OpenRun};
 use patches::chunks::{LIMIT, chunk_total};
-use patches::iter::patches_from;
+use patches::iter::patched_rows_from;
 use patches::patch_set::PatchSet;
 use patches::refusal::{Part, Reason, Refusal};
 
@@ -25,12 +25,14 @@ fn replace<S: PatchSet>(set: &S, start: u64, cells: &mut [S::Value]) -> u64
 {
     let end = start + cells.len() as u64;
     let mut count = 0;
-    for (row, value) in patches_from(set, start) {
+    for row in patched_rows_from(set, start) {
         if row >= end {
             break;
         }
-        cells[(row - start) as usize] = value;
-        count += 1;
+        if let Some(value) = set.find(row) {
+            cells[(row - start) as usize] = value;
+            count += 1;
+        }
     }
     count
 }

@@ -1,4 +1,4 @@
-use Rattle.std.proofs.Common.{◌≡◌, ap, arith}
+use Rattle.std.proofs.Common.{ap, arith}
 use Rattle.search_sorted.specs.Numbers.{count, number}
 use Rattle.patches.proofs.Unders.{count_by_both, count_by_first, count_not_past}
 use Rattle.patches.proofs.column.loads.is_count_under.Goals as goal
