@@ -1,5 +1,5 @@
 -- Parts of eight bytes, and the cells that they are. Assumes nothing.
-use Rattle.std.proofs.Common.{◌≡◌, ℕ, zero, suc, ◌*◌, ◌<◌, List, get_or, take, drop, ap, ◌∙◌, zero-add, arith, w64, to_z, rules}
+use Rattle.std.proofs.Common.{◌≡◌, ℕ, zero, suc, ◌*◌, ◌<◌, List, ℤ, get_or, take, drop, ap, ◌∙◌, zero-add, arith, w64, to_z, rules}
 use Rattle.std.proofs.lemmas.List.{get_or-take, get_or-drop, drop-drop}
 use Rattle.std.specs.Int.{from_le_bytes}
 use Rattle.std.specs.Simd.{first_chunks}
@@ -26,3 +26,14 @@ pub cell_of_part :
 unfolding cell
 cell_of_part n xs parts k d are h =
     ap (λ part. to_z w64 (from_le_bytes w64 part)) (ap (λ l. get_or l k d) are ∙ part_at 8 n xs k d h) ∙ ap (to_z w64) (word_at xs (8 * k))
+
+-- the same of a number that was read from an item, where that item is the part at its place
+pub cell_of_item :
+    (items : List (List ℕ)) {number : ℤ} (n : ℕ) (xs : List ℕ) (parts : List (List ℕ)) (k : ℕ) (d : List ℕ)
+    → number ≡ to_z w64 (from_le_bytes w64 (get_or items k d))
+    → get_or items k d ≡ get_or parts k d
+    → parts ≡ first_chunks 8 n xs
+    → k < n
+    → number ≡ cell xs k
+cell_of_item items n xs parts k d reads is are h =
+    reads ∙ ap (λ part. to_z w64 (from_le_bytes w64 part)) is ∙ cell_of_part n xs parts k d are h
